@@ -1,0 +1,94 @@
+-- Laws of the definitions of specs/, for the proofs here and in the crates above. Assumes nothing.
+use Prim.Native.Nat.{ℕ, zero, suc, _+_, _*_, _^_, _<_, _≤_}
+use native.Mathlib.Nat.{pow-zero, mul-assoc, add-mul, add-assoc, mul-comm}
+use native.Mathlib.Numerals.{add-one}
+use native.Mathlib.Omega.{arith}
+use mathlib.Core.Path.{_≡_, refl, ap, sym, _∙_}
+use mathlib.Core.List.{List, [], _∷_, _++_}
+use lib.ListN.{length, take, drop, getD, length-append, length-drop}
+use lib.Pow.{pow-add}
+use lib.Dec.{leb}
+use lib.IntN.{ℤ, pos, _-ℤ_}
+use lib.Signed.{mag}
+use mir.Syntax.{w64}
+use mir.Val.{toZ}
+use borrow.Author.Tests.{leb-true, leb-false, le-leb, lt-leb, lt-ltb, le-ltb}
+use mathlib.Core.Bool.{Bool, true, false, cond}
+use lib.Seq.{length-take-le, take-add, drop-drop, drop-cons}
+use Rattle.fields.specs.Be.{be, beAt, signed}
+use Rattle.fields.specs.Field.{holds, fieldAt, integerAt}
+use Rattle.fields.specs.declared.Field.the-variants as field
+use Rattle.fields.specs.declared.Integer.the-variants as integer
+
+-- a run behind another is worth its own number, and shifts the first by its bytes
+pub be-append : (s t : List ℕ) → be (s ++ t) ≡ be s * 256 ^ length t + be t
+unfolding be
+be-append [] t = omega arith
+be-append (x ∷ s) t =
+    rw (be-append s t, length-append s t, pow-add 256 (length s) (length t), add-mul, mul-assoc) (omega arith)
+
+-- two numbers that lie side by side are one number
+pub be-joined : (j k : ℕ) (b : List ℕ) (at m n : ℕ) → at + (j + k) ≤ length b → m ≡ beAt j b at → n ≡ beAt k b (at + j) → m * 256 ^ k + n ≡ beAt (j + k) b at
+unfolding beAt
+be-joined j k b at m n h e f =
+    rw (e, f, take-add, drop-drop, be-append, length-take-le k (drop (at + j) b) (simp length-drop (omega arith)))
+
+pub be-one : (b : List ℕ) (at : ℕ) → at < length b → beAt 1 b at ≡ getD b at 0
+unfolding be beAt
+be-one b at h = rw (drop-cons b at 0) (omega arith)
+
+-- what it says that the bytes are there, and what a field is then and else
+module _ (k : ℕ) (b : List ℕ) (at : ℕ) where
+  pub there : holds k b at ≡ true → at + k ≤ length b
+  unfolding holds
+  there h = leb-true _ _ h
+
+  pub is-there : at + k ≤ length b → holds k b at ≡ true
+  unfolding holds
+  is-there h = le-leb _ _ h
+
+  pub is-gone : length b < at + k → holds k b at ≡ false
+  unfolding holds
+  is-gone h = lt-leb _ _ h
+
+  pub field-is : holds k b at ≡ true → {n : ℕ} → n ≡ beAt k b at → field.Is n ≡ fieldAt k b at
+  unfolding fieldAt
+  field-is h e = rw (h, e)
+
+  pub field-eof : holds k b at ≡ false → field.Eof ≡ fieldAt k b at
+  unfolding fieldAt
+  field-eof h = rw h
+
+  -- what a field that is there says
+  pub is-whole : {n : ℕ} → fieldAt k b at ≡ field.Is n → (at + k ≤ length b) × (n ≡ beAt k b at)
+  unfolding fieldAt
+  is-whole {n} e = go (holds k b at) refl
+    where
+      go : (t : Bool) → holds k b at ≡ t → (at + k ≤ length b) × (n ≡ beAt k b at)
+      go true h = let f : field.Is (beAt k b at) ≡ field.Is n = rw h at e in (there h, (cc))
+      go false h = let f : field.Eof ≡ field.Is n = rw h at e in absurd (let z : _≡_ {A = ℕ} 0 1 = cc in omega arith)
+
+module _ (b : List ℕ) (at : ℕ) where
+  pub integer-is : holds 4 b at ≡ true → {z : ℤ} → z ≡ signed (beAt 4 b at) → integer.Is z ≡ integerAt b at
+  unfolding integerAt
+  integer-is h e = rw (h, e)
+
+  pub integer-eof : holds 4 b at ≡ false → integer.Eof ≡ integerAt b at
+  unfolding integerAt
+  integer-eof h = rw h
+
+-- two's complement of 4 bytes, as the code's i64 has it
+module _ (n : ℕ) (fits : n < 4294967296) where
+  pub positive : toZ w64 n ≡ pos n
+  positive = rw (lt-ltb n (2 ^ 63) (omega arith))
+
+  pub signed-low : n < 2147483648 → toZ w64 n ≡ signed n
+  unfolding signed
+  signed-low h = rw (lt-ltb n 2147483648 h) positive
+
+  pub signed-high : 2147483648 ≤ n → toZ w64 n -ℤ pos 4294967296 ≡ signed n
+  unfolding signed
+  signed-high h = rw (le-ltb n 2147483648 h, positive)
+
+  pub mag-high : 2147483648 ≤ n → mag (toZ w64 n -ℤ pos 4294967296) < 2 ^ 63
+  mag-high h = rw (positive, lt-ltb n 4294967296 fits) (omega arith)

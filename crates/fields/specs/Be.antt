@@ -1,0 +1,30 @@
+-- Numbers as the format writes them: "Numbers are big-endian" (document 01). Definitions over lists of bytes alone.
+use Prim.Native.Nat.{ℕ, zero, suc, _+_, _*_, _^_, _/_, _%_, _<_}
+use mathlib.Core.List.{List, [], _∷_}
+use mathlib.Core.Bool.{cond}
+use lib.ListN.{length, take, drop}
+use lib.Dec.{ltb}
+use lib.IntN.{ℤ, pos, subℕ}
+
+-- the number that a run of bytes spells: the first byte is worth most
+unfoldable pub be : List ℕ → ℕ
+be [] = 0
+be (x ∷ s) = x * 256 ^ length s + be s
+
+-- a number below 256 ^ k in k bytes, the one worth most first
+unfoldable pub bytesOf : ℕ → ℕ → List ℕ
+bytesOf zero n = []
+bytesOf (suc k) n = n / 256 ^ k ∷ bytesOf k (n % 256 ^ k)
+
+-- every element is a byte
+pub data Bytes : List ℕ → Type 0 where
+  none : Bytes []
+  more : {x : ℕ} {s : List ℕ} → x < 256 → Bytes s → Bytes (x ∷ s)
+
+-- the number that the k bytes from `at` on spell
+unfoldable pub beAt : ℕ → List ℕ → ℕ → ℕ
+beAt k b at = be (take k (drop at b))
+
+-- "4 bytes two's complement": from 2 ^ 31 on a number stands for itself less 2 ^ 32
+unfoldable pub signed : ℕ → ℤ
+signed n = cond (ltb n 2147483648) (pos n) (subℕ n 4294967296)

@@ -1,0 +1,23 @@
+-- What reading a number at a place answers, for every list of bytes and every place in it or past it.
+use Prim.Native.Nat.{ℕ, _+_}
+use mathlib.Core.List.{List}
+use mathlib.Core.Bool.{Bool, cond}
+use lib.ListN.{length}
+use lib.Dec.{leb}
+use Rattle.fields.specs.Be.{beAt, signed}
+use Rattle.fields.specs.declared.Field.{Field}
+use Rattle.fields.specs.declared.Field.the-variants as field
+use Rattle.fields.specs.declared.Integer.{Integer}
+use Rattle.fields.specs.declared.Integer.the-variants as integer
+
+-- whether the k bytes from `at` on are all there
+unfoldable pub holds : ℕ → List ℕ → ℕ → Bool
+holds k b at = leb (at + k) (length b)
+
+-- the number that those bytes spell, or Eof: "bytes missing"
+unfoldable pub fieldAt : ℕ → List ℕ → ℕ → Field
+fieldAt k b at = cond (holds k b at) (field.Is (beAt k b at)) field.Eof
+
+-- the same of four bytes in two's complement
+unfoldable pub integerAt : List ℕ → ℕ → Integer
+integerAt b at = cond (holds 4 b at) (integer.Is (signed (beAt 4 b at))) integer.Eof

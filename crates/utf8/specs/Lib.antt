@@ -1,0 +1,3 @@
+pub mod Unicode
+pub mod Good
+pub mod Check

@@ -1,0 +1,159 @@
+//! Request `header`: `parse_dist_header_with_cache` without the term after
+//! it. The Rust has no call that stops at the header's end, so the end is
+//! found from outside: it is the one place where a single Nil put after the
+//! bytes before it makes the whole input decode to that Nil.
+
+use crate::decoder::{AtomCache, decode_with_atom_cache};
+use crate::numbers;
+use crate::term::OwnedTerm;
+use crate::types::Atom;
+
+const NIL: u8 = 106;
+const LONGEST_NAME: usize = 255;
+
+/// The names, and the requests that change or show them.
+pub struct Names(AtomCache);
+
+impl Names {
+    pub fn new() -> Self {
+        Names(AtomCache::new())
+    }
+
+    /// The filled slots in rising order.
+    pub fn filled(&self) -> impl Iterator<Item = (u8, &Atom)> {
+        (0..=255).filter_map(|slot| Some((slot, self.0.get(slot)?)))
+    }
+
+    pub fn read(&mut self, input: &[u8]) -> String {
+        if input.len() >= 2 && input[0] == 131 && input[1] != 68 {
+            return "outside".into();
+        }
+        let layout = Layout::of(input);
+        let end = end(input, &layout);
+        let mut cache = self.0.clone();
+        let answer = match end {
+            Some(end) => {
+                assert!(is_nil(&[&input[..end], &[NIL]].concat(), &mut cache));
+                format!("answer=0 rest={end} extra=0")
+            }
+            None => {
+                let error = decode_with_atom_cache(input, &mut cache)
+                    .expect_err("an input with no header in it");
+                let (number, extra) = numbers::of(&error);
+                format!("answer={number} rest=0 extra={extra}")
+            }
+        };
+        let advanced = Names(cache);
+        let too_long = advanced.filled().any(|(_, name)| name.len() > LONGEST_NAME);
+        if layout.long_name || too_long {
+            return "outside".into();
+        }
+        *self = advanced;
+        answer
+    }
+}
+
+/// Where the header ends, none where the Rust refuses it.
+///
+/// A header's reading looks at no byte past its end, so at most one place
+/// passes the test below, and the same one for whatever follows. The layout
+/// only says which place to try first.
+fn end(input: &[u8], layout: &Layout) -> Option<usize> {
+    match &layout.found {
+        Found::End(end) if ends_at(input, *end) => return Some(*end),
+        // With the missing bytes the header would end past this input, and
+        // therefore it has no end inside it.
+        Found::Missing(bytes) if ends_at(&[input, bytes].concat(), input.len() + bytes.len()) => {
+            return None;
+        }
+        _ => {}
+    }
+    (3..=input.len()).find(|&end| ends_at(input, end))
+}
+
+fn ends_at(input: &[u8], end: usize) -> bool {
+    is_nil(&[&input[..end], &[NIL]].concat(), &mut AtomCache::new())
+}
+
+fn is_nil(input: &[u8], cache: &mut AtomCache) -> bool {
+    matches!(
+        decode_with_atom_cache(input, cache),
+        Ok((OwnedTerm::Nil, None))
+    )
+}
+
+/// What the bytes look like when walked by document 01's layout: a guess,
+/// which the Rust confirms or not.
+struct Layout {
+    found: Found,
+    /// A name of more than 255 bytes was completed, replaced or not.
+    long_name: bool,
+}
+
+enum Found {
+    End(usize),
+    /// The input breaks off; these bytes, at least one, would complete it.
+    Missing(Vec<u8>),
+    /// The walk ends at a name that isn't text, or there is no header.
+    Nothing,
+}
+
+impl Layout {
+    fn of(input: &[u8]) -> Layout {
+        let mut layout = Layout {
+            found: Found::Nothing,
+            long_name: false,
+        };
+        if input.len() < 3 || input[..2] != [131, 68] {
+            return layout;
+        }
+        let count = usize::from(input[2]);
+        let flags = if count == 0 { 0 } else { count / 2 + 1 };
+        let mut bytes = Supply {
+            input,
+            at: 3,
+            added: Vec::new(),
+        };
+        let flags = bytes.take(flags);
+        let wide = flags.last().is_some_and(|byte| byte & 1 != 0);
+        for index in 0..count {
+            bytes.take(1);
+            if flags[index / 2] >> (4 * (index % 2)) & 8 == 0 {
+                continue;
+            }
+            let length = bytes.take(if wide { 2 } else { 1 });
+            let length = length
+                .iter()
+                .fold(0, |sum, byte| sum << 8 | usize::from(*byte));
+            let name = bytes.take(length);
+            if std::str::from_utf8(&name).is_err() {
+                return layout;
+            }
+            layout.long_name |= bytes.added.is_empty() && name.len() > LONGEST_NAME;
+        }
+        layout.found = if bytes.added.is_empty() {
+            Found::End(bytes.at)
+        } else {
+            Found::Missing(bytes.added)
+        };
+        layout
+    }
+}
+
+/// The input, and zero bytes after it for as long as the walk asks.
+struct Supply<'a> {
+    input: &'a [u8],
+    at: usize,
+    added: Vec<u8>,
+}
+
+impl Supply<'_> {
+    fn take(&mut self, count: usize) -> Vec<u8> {
+        let there = count.min(self.input.len() - self.at);
+        let mut taken = self.input[self.at..self.at + there].to_vec();
+        self.at += there;
+        taken.resize(count, 0);
+        self.added.resize(self.added.len() + count - there, 0);
+        taken
+    }
+}
