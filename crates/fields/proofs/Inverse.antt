@@ -2,10 +2,14 @@
 use Prim.Native.Nat.{ℕ, zero, suc, _+_, _*_, _^_, _/_, _%_, _<_}
 use native.Mathlib.Nat.{add-zero, pow-suc, one-le-pow, mul-le-mul-right, mod-lt, mod-eq-of-lt, div-eq-of-lt, div-add-mod', mul-add-div-right, mul-add-mod-self-right}
 use native.Mathlib.Omega.{arith}
-use mathlib.Core.Path.{_≡_, refl, ap}
+use mathlib.Core.Path.{_≡_, refl, ap, subst}
 use mathlib.Core.List.{List, [], _∷_}
-use lib.ListN.{length}
-use Rattle.fields.specs.Be.{be, bytesOf, Bytes, none, more}
+use lib.ListN.{length, getD, take, drop, length-drop}
+use lib.Seq.{length-take-le, getD-drop}
+use Rattle.fields.specs.Be.{be, beAt, bytesOf, Bytes, none, more}
+use Rattle.fields.specs.Field.{fieldAt}
+use Rattle.fields.specs.declared.Field.the-variants as field
+use Rattle.fields.proofs.Laws.{is-whole}
 
 places : (k : ℕ) → 0 < 256 ^ k
 places k = one-le-pow k 256 (omega arith)
@@ -36,3 +40,21 @@ bytesOf-be none = refl
 bytesOf-be (more {x} {s} h r) =
     let q = be-below r in
     rw (mul-add-div-right (places (length s)) x (be s), div-eq-of-lt q, mul-add-mod-self-right x (256 ^ length s) (be s), mod-eq-of-lt q, bytesOf-be r, add-zero x)
+
+-- what a field of k bytes says is below 256 ^ k, where the input is bytes
+bytes-of : (s : List ℕ) → ((i : ℕ) → getD s i 0 < 256) → Bytes s
+bytes-of [] h = none
+bytes-of (x ∷ s) h = more (h 0) (bytes-of s (λ i. h (suc i)))
+
+taken : (k : ℕ) {s : List ℕ} → Bytes s → Bytes (take k s)
+taken zero r = none
+taken (suc k) none = none
+taken (suc k) (more h r) = more h (taken k r)
+
+pub is-below : (k : ℕ) (b : List ℕ) (at : ℕ) {n : ℕ} → ((i : ℕ) → getD b i 0 < 256) → fieldAt k b at ≡ field.Is n → n < 256 ^ k
+unfolding beAt
+is-below k b at {n} h e =
+    let w = is-whole k b at e in
+    let r : Bytes (take k (drop at b)) = taken k (bytes-of (drop at b) (λ i. rw getD-drop (h (at + i)))) in
+    let l : length (take k (drop at b)) ≡ k = length-take-le k (drop at b) (simp length-drop (omega arith)) in
+    rw (w .1) (subst (λ (m : ℕ). be (take k (drop at b)) < 256 ^ m) l (be-below r))

@@ -1,0 +1,49 @@
+-- `rows::binary` meets its contract. Assumes nothing.
+use native.Mathlib.Omega.{arith}
+use mathlib.Core.Path.{sym, _∙_}
+use borrow.Author.Needs.{needs}
+use Rattle.rows.specs.Layout.{binary}
+use Rattle.rows.proofs.Laws.{sized-is, sized-eof, capped-in, capped-out}
+use Rattle.fields.proofs.Laws.{is-whole}
+use Rattle.rows.proofs.binary.Statement.{statement}
+use Rattle.rows.proofs.binary.Tie as tie
+
+be-u32-requires : tie.Need-be-u32-requires
+be-u32-requires c κs = search needs
+
+enum-known-f : tie.Need-enum-known-f
+enum-known-f c = search needs
+
+returns : tie.Need-returns
+unfolding binary
+returns c = sym (sized-is 4 _ _ _ (sym (c .before .before .before .before .be-u32 .ensures) ∙ c .before .before .f .given .1) ∙ capped-out _ _ _ (c .if1 .taken))
+
+add-bytes : tie.Need-add-bytes
+add-bytes c = omega (arith, is-whole 4 _ _ (sym (c .before .before .before .before .be-u32 .ensures) ∙ c .before .before .f .given .1) .0)
+
+bytes-requires : tie.Need-bytes-requires
+bytes-requires c κs = search needs
+
+enum-told : tie.Need-enum-told
+enum-told c = search needs
+
+returns-2 : tie.Need-returns-2
+unfolding binary
+returns-2 c = c .bytes .ensures ∙ sym (sized-is 4 _ _ _ (sym (c .before .before .before .before .before .be-u32 .ensures) ∙ c .before .before .before .f .given .1) ∙ capped-in _ _ _ (c .before .if1 .left))
+
+returns-3 : tie.Need-returns-3
+unfolding binary
+returns-3 c = sym (sized-eof 4 _ _ _ (sym (c .before .before .be-u32 .ensures) ∙ c .enum-told .given .1))
+
+pub binary-spec : {M : Type 1} → statement M
+binary-spec =
+    tie.close
+    (tie.spec
+    be-u32-requires
+    enum-known-f
+    returns
+    add-bytes
+    bytes-requires
+    enum-told
+    returns-2
+    returns-3)

@@ -1,0 +1,34 @@
+-- `rows::name1` meets its contract. Assumes nothing.
+use native.Mathlib.Omega.{arith}
+use mathlib.Core.Path.{sym, _∙_}
+use borrow.Author.Needs.{needs}
+use Rattle.rows.proofs.Laws.{sized-is, sized-eof}
+use Rattle.fields.proofs.Laws.{is-whole}
+use Rattle.rows.proofs.name1.Statement.{statement}
+use Rattle.rows.proofs.name1.Tie as tie
+
+be-u8-requires : tie.Need-be-u8-requires
+be-u8-requires c κs = search needs
+
+enum-known-f : tie.Need-enum-known-f
+enum-known-f c = search needs
+
+add-name : tie.Need-add-name
+add-name c = omega (arith, is-whole 1 _ _ (sym (c .before .before .before .be-u8 .ensures) ∙ c .before .f .given .1) .0)
+
+name-requires : tie.Need-name-requires
+name-requires c κs = search needs
+
+enum-told : tie.Need-enum-told
+enum-told c = search needs
+
+returns : tie.Need-returns
+returns c = c .name .ensures ∙ sym (sized-is 1 _ _ _ (sym (c .before .before .before .before .be-u8 .ensures) ∙ c .before .before .f .given .1))
+
+returns-2 : tie.Need-returns-2
+returns-2 c = sym (sized-eof 1 _ _ _ (sym (c .before .before .be-u8 .ensures) ∙ c .enum-told .given .1))
+
+pub name1-spec : {M : Type 1} → statement M
+name1-spec =
+    tie.close
+    (tie.spec be-u8-requires enum-known-f add-name name-requires enum-told returns returns-2)

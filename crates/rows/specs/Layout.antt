@@ -1,0 +1,53 @@
+-- Document 01's term layouts: the rows without children, in its order and words. `p` is the place behind the tag.
+use Prim.Native.Nat.{ℕ, _+_}
+use mathlib.Core.List.{List}
+use mathlib.Core.Bool.{Bool, cond, _&&_, _||_}
+use lib.Dec.{eqb, leb, ltb}
+use lib.ListN.{getD, take, drop}
+use Rattle.literal.specs.Trim.{trimmed}
+use Rattle.literal.specs.Parse.{isLiteral}
+use Rattle.rows.specs.Numbers as number
+use Rattle.rows.specs.Row.{no, andThen, bytes, sized, name, capped}
+use Rattle.rows.specs.declared.Row.{Row}
+use Rattle.rows.specs.declared.Row.the-variants.{To}
+
+-- "31 bytes of text": "checked as UTF-8, loses trailing zero bytes, and must then read as a Rust f64 literal"
+unfoldable pub numberText : List ℕ → ℕ → Row
+numberText b p =
+    let text = take 31 (drop p b) in
+    andThen (name b 31 p) (λ e. cond (isLiteral (take (trimmed text) text)) (To e) (no number.Literal))
+
+-- "A bits byte is 1 to 8, and 8 where length is 0"
+unfoldable pub bitsByte : ℕ → ℕ → Bool
+bitsByte n k = cond (eqb n 0) (eqb k 8) (leb 1 k && leb k 8)
+
+-- "length of 4 bytes, bits byte, bytes"; "length cap first, bits next, bytes last"
+unfoldable pub bitsThen : List ℕ → ℕ → ℕ → Row
+bitsThen b n p = sized 1 b (λ k q. cond (bitsByte n k) (bytes b n q) (no number.Bits)) p
+
+unfoldable pub bitString : List ℕ → ℕ → ℕ → Row
+bitString b n p = capped 100000000 n (bitsThen b n p)
+
+-- "length of 4 bytes, bytes"
+unfoldable pub binary : List ℕ → ℕ → Row
+binary b p = sized 4 b (λ n q. capped 100000000 n (bytes b n q)) p
+
+-- "sign byte (nonzero is negative), n digit bytes, least first"
+unfoldable pub digits : List ℕ → ℕ → ℕ → Row
+digits b n p = andThen (bytes b 1 p) (bytes b n)
+
+unfoldable pub leaf : List ℕ → ℕ → ℕ → Row
+leaf b tag p =
+    cond (eqb tag 97) (bytes b 1 p)
+    (cond (eqb tag 98) (bytes b 4 p)
+    (cond (eqb tag 99) (numberText b p)
+    (cond (eqb tag 70) (bytes b 8 p)
+    (cond (eqb tag 100 || eqb tag 118) (sized 2 b (name b) p)
+    (cond (eqb tag 119) (sized 1 b (name b) p)
+    (cond (eqb tag 106) (To p)
+    (cond (eqb tag 107) (sized 2 b (bytes b) p)
+    (cond (eqb tag 109) (binary b p)
+    (cond (eqb tag 77) (sized 4 b (bitString b) p)
+    (cond (eqb tag 110) (sized 1 b (digits b) p)
+    (cond (eqb tag 111) (sized 4 b (digits b) p)
+    (no number.Tag))))))))))))
