@@ -1,3 +1,3 @@
 pub mod Laws
-pub mod Within
+pub mod Ends
 pub mod Examples

@@ -7,6 +7,7 @@ use lib.ListN.{getD, take, drop}
 use Rattle.literal.specs.Trim.{trimmed}
 use Rattle.literal.specs.Parse.{isLiteral}
 use Rattle.rows.specs.Numbers as number
+use Rattle.rows.specs.Caps as cap
 use Rattle.rows.specs.Row.{no, andThen, bytes, sized, name, capped}
 use Rattle.rows.specs.declared.Row.{Row}
 use Rattle.rows.specs.declared.Row.the-variants.{To}
@@ -26,11 +27,11 @@ unfoldable pub bitsThen : List ℕ → ℕ → ℕ → Row
 bitsThen b n p = sized 1 b (λ k q. cond (bitsByte n k) (bytes b n q) (no number.Bits)) p
 
 unfoldable pub bitString : List ℕ → ℕ → ℕ → Row
-bitString b n p = capped 100000000 n (bitsThen b n p)
+bitString b n p = capped cap.length n (bitsThen b n p)
 
 -- "length of 4 bytes, bytes"
 unfoldable pub binary : List ℕ → ℕ → Row
-binary b p = sized 4 b (λ n q. capped 100000000 n (bytes b n q)) p
+binary b p = sized 4 b (λ n q. capped cap.length n (bytes b n q)) p
 
 -- "sign byte (nonzero is negative), n digit bytes, least first"
 unfoldable pub digits : List ℕ → ℕ → ℕ → Row

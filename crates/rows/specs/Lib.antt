@@ -1,3 +1,4 @@
 pub mod Numbers
+pub mod Caps
 pub mod Row
 pub mod Layout

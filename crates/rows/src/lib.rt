@@ -7,6 +7,7 @@ ghost use mathlib.Core.Path.{_≡_};
 ghost use Rattle.rows.specs.Row as row;
 ghost use Rattle.rows.specs.Layout as layout;
 
+// The numbers the jig shows, as far as reading gives them: one place for the crates above too.
 pub const EOF: u64 = 1;
 
 pub const TAG: u64 = 2;
@@ -18,6 +19,12 @@ pub const LITERAL: u64 = 4;
 pub const BITS: u64 = 5;
 
 pub const SIZE: u64 = 6;
+
+pub const DEEP: u64 = 8;
+
+pub const LONG: u64 = 10;
+
+pub const LIMIT: u64 = 14;
 
 // The cap on the length of a binary and of a bit string.
 const MAX_BINARY_SIZE: u64 = 100000000;

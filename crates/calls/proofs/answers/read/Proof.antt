@@ -1,0 +1,20 @@
+-- `calls::answers::read` meets its contract: the path printed lies within the answer's.
+use native.Mathlib.Omega.{arith}
+use borrow.Author.Needs.{needs}
+use Rattle.calls.proofs.Paths.{few-segments}
+use Rattle.calls.proofs.answers.read.Statement.{statement}
+use Rattle.calls.proofs.answers.read.Tie as tie
+
+segments-requires : tie.Need-segments-requires
+segments-requires c κs = (few-segments _ _ _ _ (c .before .before .before .before .before .before .before .before .before .before .read .ensures), omega arith)
+
+pub read-spec : {M : Type 1} → statement M
+read-spec =
+    tie.close
+    (tie.spec
+    (λ c κs. search needs)
+    (λ c κs. search needs)
+    (λ c κs. search needs)
+    segments-requires
+    (λ c. search needs)
+    (λ c. search needs))

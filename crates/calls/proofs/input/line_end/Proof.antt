@@ -1,0 +1,25 @@
+-- `calls::input::line_end` meets its contract: the place lies between `from` and `end`. The measure is the bytes left.
+use Prim.Native.Nat.{_≤_, _-_}
+use native.Mathlib.Omega.{arith}
+use Rattle.calls.proofs.input.line_end.Statement.{statement}
+use Rattle.calls.proofs.input.line_end.Tie as tie
+
+abbrev Inv-loop : tie.InvT-loop
+Inv-loop text from end i₀ i = (from ≤ i) × (i ≤ end)
+
+abbrev μ-loop : tie.MeasureT-loop
+μ-loop text from end i₀ i = end - i
+
+pub line-end-spec : {M : Type 1} → statement M
+line-end-spec =
+    tie.close
+    (tie.spec
+    Inv-loop
+    μ-loop
+    (λ c. omega arith)
+    (λ c. omega arith)
+    (λ c. omega arith)
+    (λ c. omega arith)
+    (λ c. omega arith)
+    (λ c. omega arith)
+    (λ c. omega arith))

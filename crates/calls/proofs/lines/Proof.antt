@@ -1,0 +1,34 @@
+-- `calls::lines` meets its contract: the buffers keep their lengths, and each line lies behind the one before it. The measure is the bytes behind the line.
+use mathlib.Core.Path.{_≡_}
+use Prim.Native.Nat.{_≤_, _-_}
+use native.Mathlib.Omega.{arith}
+use lib.ListN.{length}
+use Rattle.calls.proofs.lines.Statement.{statement}
+use Rattle.calls.proofs.lines.Tie as tie
+
+abbrev Inv-loop : tie.InvT-loop
+Inv-loop text end bytes₀ out₀ at₀ from₀ stop₀ bytes out at from stop = (from ≤ stop) × ((stop ≤ end) × ((at ≤ length out) × ((length out ≡ length out₀) × (length bytes ≡ length bytes₀))))
+
+abbrev μ-loop : tie.MeasureT-loop
+μ-loop text end bytes₀ out₀ at₀ from₀ stop₀ bytes out at from stop = end - stop
+
+pub lines-spec : {M : Type 1} → statement M
+lines-spec =
+    tie.close
+    (tie.spec
+    Inv-loop
+    μ-loop
+    (λ c κs. omega arith)
+    (λ c. omega arith)
+    (λ c. omega arith)
+    (λ c. omega arith)
+    (λ c. omega arith)
+    (λ c κs. omega arith)
+    (λ c. omega arith)
+    (λ c κs. omega arith)
+    (λ c. omega arith)
+    (λ c. omega arith)
+    (λ c κs. omega arith)
+    (λ c. omega arith)
+    (λ c. omega arith)
+    (λ c. omega arith))

@@ -1,0 +1,129 @@
+-- Over the definition alone: whatever is answered lies within the input, has begun at most a term for each byte, and is nested, and has a
+-- path, no longer than the limit. Assumes nothing.
+use mathlib.Core.Path.{_≡_, refl, sym, _∙_}
+use mathlib.Core.List.{List}
+use mathlib.Core.Bool.{Bool, true, false, cond, _||_}
+use Prim.Native.Nat.{ℕ, zero, suc, _+_, _-_, _≤_, _<_, max}
+use native.Mathlib.Omega.{arith}
+use lib.Dec.{ltb, eqb}
+use lib.ListN.{length}
+use borrow.Author.Tests.{ltb-true, ltb-false, lt-ltb, eqb-false, le-ltb}
+use Rattle.rows.specs.Numbers as number
+use Rattle.terms.specs.declared.Answer.{Answer}
+use Rattle.terms.specs.declared.Segment.{Segment}
+use Rattle.terms.specs.Reading.{At, Out, done, no, reach, begin, refused}
+use Rattle.terms.specs.Terms.{term}
+use Rattle.terms.specs.Answer.{before, answer, readAt}
+use Rattle.terms.proofs.Keeps.{Keeps, Held, keeps, keeps-begun}
+
+-- a place that reading from s on comes to
+pub record Within (b : List ℕ) (limit : ℕ) (s t : At) : Type 0 where
+  pub after : s .pos ≤ t .pos
+  pub inside : t .pos ≤ length b
+  pub reached : t .last ≤ max (s .last) (length b)
+  pub counted : t .begun + s .pos ≤ s .begun + t .pos
+  pub nested : t .deepest ≤ max (s .deepest) limit
+
+-- and where a refusal leaves it, with so many levels left
+pub record Refused (b : List ℕ) (limit : ℕ) (s : At) (left n : ℕ) (p : List Segment) (t : At) : Type 0 where
+  pub some : 0 < n
+  pub short : length p ≤ left
+  pub reached : t .last ≤ max (s .last) (length b)
+  pub counted : t .begun + s .pos ≤ s .begun + length b
+  pub nested : t .deepest ≤ max (s .deepest) limit
+
+module _ (b : List ℕ) (limit : ℕ) where
+  -- no term is begun at the input's end, and one that is read starts before it
+  pub at-end : (left : ℕ) (s : At) → length b ≤ s .pos → term b limit left s ≡ refused number.Eof (reach s)
+  unfolding term
+  at-end zero s h = rw (le-ltb (s .pos) (length b) h)
+  at-end (suc l) s h = rw (le-ltb (s .pos) (length b) h)
+
+  pub started : (left : ℕ) (s t : At) → term b limit left s ≡ done t → s .pos < length b
+  started left s t e = go (ltb (s .pos) (length b)) refl
+    where
+      go : (x : Bool) → ltb (s .pos) (length b) ≡ x → s .pos < length b
+      go true h = ltb-true (s .pos) (length b) h
+      go false h = let f : refused number.Eof (reach s) ≡ done t = sym (at-end left s (ltb-false (s .pos) (length b) h)) ∙ e in absurd (let z : _≡_ {A = ℕ} 0 1 = cc in omega arith)
+
+  bounds : (s : At) → Keeps b limit (Within b limit s) (Refused b limit s)
+  bounds s = record {
+    inside = λ t h. h .inside;
+    moves = λ t p h k l. record { after = omega arith; inside = l; reached = h .reached; counted = omega arith; nested = h .nested };
+    begins = λ t n m h k. record { after = omega arith; inside = omega arith; reached = omega arith; counted = omega arith; nested = omega arith };
+    stops = λ l n t m h. record { some = m; short = omega arith; reached = h .reached; counted = omega arith; nested = h .nested };
+    reaches = λ l n t m h. record { some = m; short = omega arith; reached = omega arith; counted = omega arith; nested = h .nested };
+    wide = λ l n p t h. record { some = h .some; short = omega arith; reached = h .reached; counted = h .counted; nested = h .nested };
+    enters = λ l n g p t h. record { some = h .some; short = omega arith; reached = h .reached; counted = h .counted; nested = h .nested };
+  }
+
+  here : (s : At) → s .pos ≤ length b → Within b limit s s
+  here s h = record { after = omega arith; inside = h; reached = omega arith; counted = omega arith; nested = omega arith }
+
+  pub within : (left : ℕ) (s : At) → s .pos ≤ length b → Held (Within b limit s) (Refused b limit s) left (term b limit left s)
+  within left s h = keeps (bounds s) left s (here s h)
+
+  -- a term that is begun, from behind its tag on
+  pub behind : (left : ℕ) (s : At) → s .pos ≤ length b → let t = begin (limit - left) s in Held (Within b limit t) (Refused b limit t) (suc left) (term b limit (suc left) s)
+  behind left s h =
+      let t = begin (limit - left) s in
+      keeps-begun (bounds t) left s (λ k. here t (omega arith)) (record { some = omega arith; short = omega arith; reached = omega arith; counted = omega arith; nested = omega arith })
+
+  -- a term that is read ends behind its start, within the input
+  pub ends : (left : ℕ) (s t : At) → term b limit left s ≡ done t → (s .pos < t .pos) × (t .pos ≤ length b)
+  unfolding term
+  ends zero s t e =
+      let f : refused number.Deep (reach s) ≡ done t = rw (lt-ltb (s .pos) (length b) (started zero s t e)) at e in
+      absurd (let z : _≡_ {A = ℕ} 0 1 = cc in omega arith)
+  ends (suc left) s t e =
+      let w = rw e at (behind left s (omega (arith, started (suc left) s t e))) in
+      (omega arith, w .inside)
+
+  -- one that is refused has at most a segment for each level left
+  pub few : (left : ℕ) (s t : At) {n x : ℕ} {p : List Segment} → s .pos ≤ length b → term b limit left s ≡ no n x t p → length p ≤ left
+  few left s t h e = (rw e at (within left s h)) .short
+
+-- the answer of reading at a place of the input
+pub record Bounded (b : List ℕ) (at limit : ℕ) (a : Answer) : Type 0 where
+  pub counted : a .begun ≤ length b - at
+  pub offset : a .offset ≤ length b
+  pub end : a .end ≤ length b
+  pub after : a .number ≡ 0 → at < a .end
+  pub nested : a .deepest ≤ limit
+  pub short : a .len ≤ limit
+  pub fits : a .len ≤ 64
+
+module _ (b : List ℕ) (at : ℕ) where
+  abbrev start : At
+  start = record { pos = at; last = 0; begun = 0; deepest = 0 }
+
+  pub bounded : (limit : ℕ) → at ≤ length b → Bounded b at limit (readAt b at limit)
+  unfolding readAt answer
+  bounded limit h = go (eqb limit 0) (ltb 64 limit) (ltb 16777216 (length b)) refl refl
+    where
+      early : (n : ℕ) → 0 < n → Bounded b at limit (before n)
+      early n k = record { counted = omega arith; offset = omega arith; end = omega arith; after = λ e. omega arith; nested = omega arith; short = omega arith; fits = omega arith }
+
+      told : (left : ℕ) (o : Out) → left < limit → limit ≤ 64 → let t = begin (limit - left) start in Held (Within b limit t) (Refused b limit t) (suc left) o → Bounded b at limit (answer o)
+      told left (done t) m l k = record { counted = omega arith; offset = omega arith; end = k .inside; after = λ e. omega arith; nested = omega arith; short = omega arith; fits = omega arith }
+      told left (no n x t p) m l k = record { counted = omega arith; offset = omega arith; end = omega arith; after = λ e. omega arith; nested = omega arith; short = omega arith; fits = omega arith }
+
+      read : (l : ℕ) → l ≡ limit → eqb limit 0 ≡ false → limit ≤ 64 → Bounded b at limit (answer (term b limit l start))
+      read zero e k m = absurd (eqb-false limit 0 k (sym e))
+      read (suc l) e k m = told l (term b limit (suc l) start) (omega arith) m (behind b limit l start h)
+
+      go : (x y z : Bool) → eqb limit 0 ≡ x → ltb 64 limit ≡ y → Bounded b at limit (cond (x || y) (before number.Limit) (cond z (before number.Long) (answer (term b limit limit start))))
+      go true y z e k = early number.Limit (omega arith)
+      go false true z e k = early number.Limit (omega arith)
+      go false false true e k = early number.Long (omega arith)
+      go false false false e k = read limit refl e (ltb-false 64 limit k)
+
+  -- past the input's end nothing is begun
+  pub past : (limit : ℕ) → length b ≤ at → readAt b at limit .begun ≡ 0
+  unfolding readAt answer
+  past limit h = go (eqb limit 0 || ltb 64 limit) (ltb 16777216 (length b))
+    where
+      go : (x y : Bool) → cond x (before number.Limit) (cond y (before number.Long) (answer (term b limit limit start))) .begun ≡ 0
+      go true y = refl
+      go false true = refl
+      go false false = rw (at-end b limit limit start h)

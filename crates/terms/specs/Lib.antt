@@ -1,0 +1,5 @@
+pub mod Reading
+pub mod Terms
+pub mod Answer
+pub mod Kids
+pub mod Told
