@@ -16,7 +16,7 @@ enum-known-f c = search needs
 
 returns : tie.Need-returns
 unfolding binary
-returns c = sym (sized-is 4 _ _ _ (sym (c .before .before .before .before .be-u32 .ensures) ∙ c .before .before .f .given .1) ∙ capped-out _ _ _ (c .if1 .taken))
+returns c = sym (sized-is 4 _ _ _ (sym (c .before .before .before .before .be-u32 .ensures) ∙ c .before .before .f .given .1) ∙ capped-out _ _ _ (omega (arith, c .if1 .taken)))
 
 add-bytes : tie.Need-add-bytes
 add-bytes c = omega (arith, is-whole 4 _ _ (sym (c .before .before .before .before .be-u32 .ensures) ∙ c .before .before .f .given .1) .0)
@@ -29,7 +29,7 @@ enum-told c = search needs
 
 returns-2 : tie.Need-returns-2
 unfolding binary
-returns-2 c = c .bytes .ensures ∙ sym (sized-is 4 _ _ _ (sym (c .before .before .before .before .before .be-u32 .ensures) ∙ c .before .before .before .f .given .1) ∙ capped-in _ _ _ (c .before .if1 .left))
+returns-2 c = c .bytes .ensures ∙ sym (sized-is 4 _ _ _ (sym (c .before .before .before .before .before .be-u32 .ensures) ∙ c .before .before .before .f .given .1) ∙ capped-in _ _ _ (omega (arith, c .before .if1 .left)))
 
 returns-3 : tie.Need-returns-3
 unfolding binary
