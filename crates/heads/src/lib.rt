@@ -1,7 +1,8 @@
 // Heads: what the fixed fields of one term say, the tag and all that its row names but children, with byte runs and ids by place.
 //
-// A head is refused as reading its term would be, at the place where reading would stop. No child is read but the atom of a pid,
-// a reference and a port. Where a row without children ends, and why it is refused, is the matter of `rows`.
+// The fields of a row are refused as reading refuses them, at the same offset. No child is read but the atom of a pid, a reference and a
+// port, and that differs from reading: where the child's tag is no atom's, it is Tag at once, at the child's start, and isn't read whole.
+// Where a row without children ends, and why it is refused, is the matter of `rows`.
 //
 // Changed from the readers of decoder.rs (parse_term_borrowed to parse_new_fun_ext_borrowed; michaelklishin/edp-rs, fc07dcb95d),
 // Copyright (C) 2025-2026 Michael S. Klishin and Contributors, Apache-2.0: see NOTICE.
