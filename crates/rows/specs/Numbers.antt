@@ -19,11 +19,32 @@ Bits = 5
 abbrev pub Size : ℕ
 Size = 6
 
+abbrev pub Trailing : ℕ
+Trailing = 7
+
 abbrev pub Deep : ℕ
 Deep = 8
+
+abbrev pub Room : ℕ
+Room = 9
 
 abbrev pub Long : ℕ
 Long = 10
 
+abbrev pub Name : ℕ
+Name = 11
+
+abbrev pub Version : ℕ
+Version = 12
+
+abbrev pub Kind : ℕ
+Kind = 13
+
 abbrev pub Limit : ℕ
 Limit = 14
+
+abbrev pub Store : ℕ
+Store = 15
+
+abbrev pub Absent : ℕ
+Absent = 16

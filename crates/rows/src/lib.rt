@@ -7,7 +7,7 @@ ghost use mathlib.Core.Path.{_≡_};
 ghost use Rattle.rows.specs.Row as row;
 ghost use Rattle.rows.specs.Layout as layout;
 
-// The numbers the jig shows, as far as reading gives them: one place for the crates above too.
+// The numbers the jig shows but Done, which is 0: one place for the crates above too.
 pub const EOF: u64 = 1;
 
 pub const TAG: u64 = 2;
@@ -20,11 +20,25 @@ pub const BITS: u64 = 5;
 
 pub const SIZE: u64 = 6;
 
+pub const TRAILING: u64 = 7;
+
 pub const DEEP: u64 = 8;
+
+pub const ROOM: u64 = 9;
 
 pub const LONG: u64 = 10;
 
+pub const NAME: u64 = 11;
+
+pub const VERSION: u64 = 12;
+
+pub const KIND: u64 = 13;
+
 pub const LIMIT: u64 = 14;
+
+pub const STORE: u64 = 15;
+
+pub const ABSENT: u64 = 16;
 
 // The cap on the length of a binary and of a bit string.
 const MAX_BINARY_SIZE: u64 = 100000000;

@@ -16,7 +16,8 @@ ghost use lib.ListN.{length, getD};
 ghost use Rattle.rows.specs.Layout as layout;
 ghost use Rattle.terms.specs.Reading.{Out, no, reach, begin, fields, pass};
 ghost use Rattle.terms.specs.Terms as def;
-ghost use Rattle.terms.specs.Answer.{padded, refusal, before, readAt};
+ghost use Rattle.terms.specs.Answer.{padded, readAt};
+ghost use Rattle.terms.specs.Answer as told;
 ghost use Rattle.terms.specs.declared.Segment.{Segment};
 ghost use Rattle.terms.specs.Kids.{most, segmentOf, entering, kidsOf};
 ghost use Rattle.terms.specs.Told.{kindNumber, unpacked, back, place, Stops, Ready, Told, Settled, LeafTo, Short, Kept};
@@ -63,16 +64,16 @@ pub fn read(b: &[u8], at: usize, limit: usize) -> Answer
     ensures { λ r. ⌜ r ≡ readAt (now (b .entry)) at limit ⌝ }
 {
     if limit == 0 {
-        return refused(rows::LIMIT);
+        return refusal(rows::LIMIT, 0, 0, 0, 0);
     }
     if 64 < limit {
-        return refused(rows::LIMIT);
+        return refusal(rows::LIMIT, 0, 0, 0, 0);
     }
     if 16777216 < b.len() {
-        return refused(rows::LONG);
+        return refusal(rows::LONG, 0, 0, 0, 0);
     }
     if b.len() < at {
-        return past(at);
+        return refusal(rows::EOF, at, 0, 0, 0);
     }
     let mut seen = [0usize; 3];
     let mut why = [0u64; 67];
@@ -106,9 +107,9 @@ pub fn read(b: &[u8], at: usize, limit: usize) -> Answer
     }
 }
 
-// A refusal before reading.
-fn refused(number: u64) -> Answer
-    ensures { λ r. ⌜ r ≡ before number ⌝ }
+// A refusal with an empty path. One before reading has no offset, extra or counts.
+pub fn refusal(number: u64, offset: usize, extra: u64, begun: usize, deepest: usize) -> Answer
+    ensures { λ r. ⌜ r ≡ told.refusal number offset extra begun deepest [] ⌝ }
 {
     let path = [Segment {
         kind: Kind::Tuple,
@@ -117,30 +118,10 @@ fn refused(number: u64) -> Answer
     Answer {
         number: number,
         end: 0,
-        offset: 0,
-        extra: 0,
-        begun: 0,
-        deepest: 0,
-        len: 0,
-        path: path,
-    }
-}
-
-// No byte stands past the end.
-fn past(at: usize) -> Answer
-    ensures { λ r. ⌜ r ≡ refusal 1 at 0 0 0 [] ⌝ }
-{
-    let path = [Segment {
-        kind: Kind::Tuple,
-        number: 0,
-    }; 64];
-    Answer {
-        number: rows::EOF,
-        end: 0,
-        offset: at,
-        extra: 0,
-        begun: 0,
-        deepest: 0,
+        offset: offset,
+        extra: extra,
+        begun: begun,
+        deepest: deepest,
         len: 0,
         path: path,
     }

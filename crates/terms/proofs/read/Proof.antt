@@ -9,29 +9,29 @@ use Rattle.terms.specs.Told.{back}
 use Rattle.terms.proofs.read.Statement.{statement}
 use Rattle.terms.proofs.read.Tie as tie
 
-refused-requires : tie.Need-refused-requires
-refused-requires c κs = search needs
+refusal-requires : tie.Need-refusal-requires
+refusal-requires c κs = search needs
 
 returns : tie.Need-returns
-returns c = c .refused .ensures ∙ sym (read-none _ _ _ (c .before .if1 .taken))
+returns c = c .refusal .ensures ∙ sym (read-none _ _ _ (c .before .if1 .taken))
 
-refused-requires-2 : tie.Need-refused-requires-2
-refused-requires-2 c κs = search needs
+refusal-requires-2 : tie.Need-refusal-requires-2
+refusal-requires-2 c κs = search needs
 
 returns-2 : tie.Need-returns-2
-returns-2 c = c .refused2 .ensures ∙ sym (read-over _ _ _ (c .before .before .if1 .left) (c .before .if2 .taken))
+returns-2 c = c .refusal2 .ensures ∙ sym (read-over _ _ _ (c .before .before .if1 .left) (c .before .if2 .taken))
 
-refused-requires-3 : tie.Need-refused-requires-3
-refused-requires-3 c κs = search needs
+refusal-requires-3 : tie.Need-refusal-requires-3
+refusal-requires-3 c κs = search needs
 
 returns-3 : tie.Need-returns-3
-returns-3 c = c .refused3 .ensures ∙ sym (read-long _ _ _ (c .before .before .before .if1 .left) (c .before .before .if2 .left) (c .before .if3 .taken))
+returns-3 c = c .refusal3 .ensures ∙ sym (read-long _ _ _ (c .before .before .before .if1 .left) (c .before .before .if2 .left) (c .before .if3 .taken))
 
-past-requires : tie.Need-past-requires
-past-requires c κs = search needs
+refusal-requires-4 : tie.Need-refusal-requires-4
+refusal-requires-4 c κs = search needs
 
 returns-4 : tie.Need-returns-4
-returns-4 c = c .past .ensures ∙ sym (read-past _ _ _ (c .before .before .before .before .if1 .left) (c .before .before .before .if2 .left) (c .before .before .if3 .left) (c .before .if4 .taken))
+returns-4 c = c .refusal4 .ensures ∙ sym (read-past _ _ _ (c .before .before .before .before .if1 .left) (c .before .before .before .if2 .left) (c .before .before .if3 .left) (c .before .if4 .taken))
 
 term-requires : tie.Need-term-requires
 term-requires c κs = search needs
@@ -71,13 +71,13 @@ pub read-spec : {M : Type 1} → statement M
 read-spec =
     tie.close
     (tie.spec
-    refused-requires
+    refusal-requires
     returns
-    refused-requires-2
+    refusal-requires-2
     returns-2
-    refused-requires-3
+    refusal-requires-3
     returns-3
-    past-requires
+    refusal-requires-4
     returns-4
     term-requires
     array-read-begun

@@ -1,0 +1,65 @@
+-- A term at a place is read exactly where the layouts describe one there, nested within the limit. Assumes nothing.
+use Prim.Native.Nat.{ℕ, _+_, _≤_, _<_}
+use native.Mathlib.Omega.{arith}
+use mathlib.Core.Path.{_≡_, refl, sym, _∙_}
+use mathlib.Core.List.{List}
+use mathlib.Core.Bool.{Bool, true, false, cond, _||_}
+use lib.Dec.{ltb, eqb}
+use lib.ListN.{length}
+use borrow.Author.Tests.{ltb-true, ltb-false}
+use Rattle.rows.specs.Numbers as number
+use Rattle.terms.specs.declared.Answer.{Answer}
+use Rattle.terms.specs.declared.Segment.{Segment}
+use Rattle.terms.specs.Reading.{At, Out, done, no, reach, refused}
+use Rattle.terms.specs.Terms.{term}
+use Rattle.terms.specs.Answer.{before, answer, readAt}
+use Rattle.terms.proofs.Bounds.{within, at-end}
+use Rattle.terms.proofs.Path.{read-on}
+use Rattle.layouts.specs.Tree.{Tree, Stands, bytes, size, depth}
+use Rattle.layouts.specs.Layout.{Laid}
+use Rattle.layouts.proofs.Sound.{sound}
+use Rattle.layouts.proofs.Complete.{complete}
+
+-- the term that was read, by the layouts
+pub record Found (b : List ℕ) (at limit : ℕ) (a : Answer) : Type 0 where
+  pub tree : Tree
+  pub laid : Laid tree
+  pub shallow : depth tree ≤ limit
+  pub stands : Stands b at (bytes tree)
+  pub ends : a .end ≡ at + length (bytes tree)
+  pub counted : a .begun ≡ size tree
+
+module _ (b : List ℕ) (at limit : ℕ) where
+  abbrev start : At
+  start = record { pos = at; last = 0; begun = 0; deepest = 0 }
+
+  -- no refusal has the number of Done
+  refuses : (n x : ℕ) (t : At) (p : List Segment) → term b limit limit start ≡ no n x t p → 0 < n
+  refuses n x t p e = go (ltb (length b) at) refl
+    where
+      go : (y : Bool) → ltb (length b) at ≡ y → 0 < n
+      go true k =
+          let f : refused number.Eof (reach start) ≡ no n x t p = sym (at-end b limit limit start (omega (arith, ltb-true (length b) at k))) ∙ e in
+          let g : n ≡ number.Eof = cc in
+          omega arith
+      go false k = (rw e at (within b limit limit start (ltb-false (length b) at k))) .some
+
+  pub read-sound : readAt b at limit .number ≡ 0 → Found b at limit (readAt b at limit)
+  unfolding readAt answer
+  read-sound = go (eqb limit 0 || ltb 64 limit) (ltb 16777216 (length b)) (term b limit limit start) refl
+    where
+      go : (x y : Bool) (o : Out) → term b limit limit start ≡ o → cond x (before number.Limit) (cond y (before number.Long) (answer o)) .number ≡ 0 →
+          Found b at limit (cond x (before number.Limit) (cond y (before number.Long) (answer o)))
+      go true y o e h = absurd (omega arith)
+      go false true o e h = absurd (omega arith)
+      go false false (no n x t p) e h = absurd (omega (arith, refuses n x t p e))
+      go false false (done t) e h =
+          let l = sound b limit limit start t e in
+          record { tree = l .tree; laid = l .laid; shallow = l .shallow; stands = l .stands; ends = l .ends; counted = omega (arith, l .counted) }
+
+  pub read-complete : (t : Tree) → Laid t → 1 ≤ limit → depth t ≤ limit → limit ≤ 64 → length b ≤ 16777216 → Stands b at (bytes t) →
+      (readAt b at limit .number ≡ 0) × (readAt b at limit .end ≡ at + length (bytes t)) × (readAt b at limit .begun ≡ size t)
+  unfolding answer
+  read-complete t l o d h k s =
+      let r = complete b limit l limit start d s in
+      rw (read-on b at limit (done (r .stop)) (λ e. omega arith) h k (sym (r .is))) (refl, r .at, omega (arith, r .counted))

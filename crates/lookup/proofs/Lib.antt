@@ -1,0 +1,7 @@
+pub mod Compare
+pub mod Keys
+pub mod Passing
+pub mod Entries
+pub mod Looking
+pub mod Meaning
+pub mod Examples

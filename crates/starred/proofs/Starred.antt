@@ -1,0 +1,78 @@
+-- Document 01's records marked *, in its order, as one statement about what our calls promise: `Starred`, and its proof. Of a read, `room` is
+-- the number of words lent. Assumes nothing.
+use Prim.Native.Nat.{ℕ, _≤_}
+use mathlib.Core.Path.{_≡_, refl}
+use mathlib.Core.List.{List, [], _∷_}
+use lib.IntN.{pos, negsuc}
+use borrow.Author.Tests.{le-ltb}
+use Rattle.fields.specs.Be.{be, beAt, signed}
+use Rattle.fields.specs.Field.{holds}
+use Rattle.rows.specs.Row as row
+use Rattle.rows.specs.Numbers as number
+use Rattle.rows.specs.Layout.{leaf, bitString, bitsThen, bitsByte}
+use Rattle.terms.specs.declared.Answer.{Answer}
+use Rattle.terms.specs.declared.Kind.the-variants as kind
+use Rattle.terms.specs.declared.Segment.{Segment}
+use Rattle.terms.specs.Answer.{refusal, answer, readAt}
+use Rattle.terms.proofs.Examples.{behind, segment}
+use Rattle.heads.specs.Head as head
+use Rattle.heads.specs.Head.{headAt}
+use Rattle.heads.specs.declared.Value.the-variants as value
+use Rattle.heads.proofs.Examples as heads
+use Rattle.tape.specs.Read.{judged, wholeFrom, readAll}
+use Rattle.lookup.specs.Lookup.{Looked, number as integer}
+use Rattle.lookup.proofs.Examples.{last-wins}
+
+-- a read that is refused, at an offset, with so many terms begun; and one that is Done where there is room for its cells
+abbrev Refused : List ℕ → (limit number offset extra begun deepest : ℕ) → List Segment → Type 0
+Refused b limit n o x c d p = (room : ℕ) → readAll b limit room ≡ refusal n o x c d p
+
+abbrev Done : List ℕ → (limit words : ℕ) → Type 0
+Done b limit words = (room : ℕ) → words ≤ room → readAll b limit room .number ≡ 0
+
+pub record Starred : Type 0 where
+  -- "empty: Eof at 0. 131: Eof at 1. 130: Tag at 0, terms 0."
+  pub empty : Refused [] 64 number.Eof 0 0 0 0 []
+  pub nothing : Refused (131 ∷ []) 64 number.Eof 1 0 0 0 []
+  pub other : Refused (130 ∷ []) 64 number.Tag 0 0 0 0 []
+  -- "131 106: Done. 131 106 0: Trailing, extra 1, offset 2."
+  pub nil : Done (131 ∷ 106 ∷ []) 64 5
+  pub trailing : Refused (131 ∷ 106 ∷ 0 ∷ []) 64 number.Trailing 2 1 1 1 []
+  -- "131 104 2 97 5: Eof, offset 5, path tuple:1, terms 2."
+  pub missing : Refused (131 ∷ 104 ∷ 2 ∷ 97 ∷ 5 ∷ []) 64 number.Eof 5 0 2 2 (segment kind.Tuple 1 ∷ [])
+  -- "131 88 104 2 106 106: Tag, offset 5, path empty, terms 4."
+  pub pid : Refused (131 ∷ 88 ∷ 104 ∷ 2 ∷ 106 ∷ 106 ∷ []) 64 number.Tag 5 0 4 3 []
+  -- "131 104 1 106, limit 1: Deep at 3, path tuple:0; limit 2: Done."
+  pub deep : Refused (131 ∷ 104 ∷ 1 ∷ 106 ∷ []) 1 number.Deep 3 0 1 1 (segment kind.Tuple 0 ∷ [])
+  pub not-deep : Done (131 ∷ 104 ∷ 1 ∷ 106 ∷ []) 2 10
+  -- "131 98 255 255 255 255 is -1; 98 128 0 0 0 is -2147483648."
+  pub less-one : headAt (131 ∷ 98 ∷ 255 ∷ 255 ∷ 255 ∷ 255 ∷ []) 1 ≡ record { tag = 98; value = value.Integer (negsuc 0) }
+  pub least : headAt (98 ∷ 128 ∷ 0 ∷ 0 ∷ 0 ∷ []) 0 ≡ record { tag = 98; value = value.Integer (negsuc 2147483647) }
+  -- "131 77 0 0 0 0 8: Done; bits 7: Bits."
+  pub no-bits : Done (131 ∷ 77 ∷ 0 ∷ 0 ∷ 0 ∷ 0 ∷ 8 ∷ []) 64 5
+  pub seven-bits : Refused (131 ∷ 77 ∷ 0 ∷ 0 ∷ 0 ∷ 0 ∷ 7 ∷ []) 64 number.Bits 1 0 1 1 []
+  -- "131 116 0 0 0 2 97 1 97 7 98 0 0 0 1 97 8: key 1 is found at 15."
+  pub found : (r : Answer) → Looked (131 ∷ 116 ∷ 0 ∷ 0 ∷ 0 ∷ 2 ∷ 97 ∷ 1 ∷ 97 ∷ 7 ∷ 98 ∷ 0 ∷ 0 ∷ 0 ∷ 1 ∷ 97 ∷ 8 ∷ []) 1 64 (integer (pos 1)) r → (r .number ≡ 0) × (r .offset ≡ 15)
+
+minus-one : headAt (131 ∷ 98 ∷ 255 ∷ 255 ∷ 255 ∷ 255 ∷ []) 1 ≡ record { tag = 98; value = value.Integer (negsuc 0) }
+unfolding headAt head.term head.leaf head.fixed leaf row.bytes holds beAt be signed
+minus-one = refl
+
+pub starred : Starred
+unfolding readAll wholeFrom judged readAt answer behind bitString bitsThen bitsByte
+starred = record {
+  empty = λ room. refl;
+  nothing = λ room. refl;
+  other = λ room. refl;
+  nil = λ room h. rw (le-ltb room 5 h) refl;
+  trailing = λ room. refl;
+  missing = λ room. refl;
+  pid = λ room. refl;
+  deep = λ room. refl;
+  not-deep = λ room h. rw (le-ltb room 10 h) refl;
+  less-one = minus-one;
+  least = heads.least;
+  no-bits = λ room h. rw (le-ltb room 5 h) refl;
+  seven-bits = λ room. refl;
+  found = λ r l. let w = last-wins l in (w .0, w .1);
+}

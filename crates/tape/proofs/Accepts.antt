@@ -1,0 +1,195 @@
+-- What a promise of reading says: which inputs are accepted, by the layouts alone; what the tape of an accepted one is; and that the
+-- promise leaves no choice. Assumes nothing.
+use Prim.Native.Nat.{ℕ, suc, _+_, _-_, _*_, _≤_, _<_}
+use native.Mathlib.Omega.{arith}
+use mathlib.Core.Path.{_≡_, refl, ap, sym, _∙_}
+use mathlib.Core.Logic.{_↔_}
+use mathlib.Core.List.{List, [], _∷_}
+use mathlib.Core.Bool.{Bool, true, false, cond, _||_}
+use lib.Dec.{ltb, eqb}
+use lib.ListN.{length, getD, drop, length-append}
+use lib.Seq.{take-all, take-append-seam, drop-at}
+use borrow.Author.Tests.{ltb-false, eqb-true, eqb-false, eq-eqb}
+use Rattle.rows.specs.Numbers as number
+use Rattle.terms.specs.declared.Answer.{Answer}
+use Rattle.terms.specs.Answer.{refusal, before, readAt}
+use Rattle.terms.proofs.Bounds.{bounded}
+use Rattle.layouts.specs.Tree.{Tree, Stands, bytes, size}
+use Rattle.layouts.proofs.Accepts.{read-sound, read-complete}
+use Rattle.tape.specs.Cells.{cellWords, words, taped}
+use Rattle.tape.specs.Read.{judged, wholeFrom, readAll, Left, Accepted}
+use Rattle.tape.specs.Spans.{Nested, IsTerm, startAt, endAt}
+use Rattle.tape.proofs.Blocks.{words-length}
+use Rattle.tape.proofs.Reading.{read-on, whole-done, behind-131}
+use Rattle.tape.proofs.Spans as spans
+
+-- a test on the way to a Done answer: what it must have said, and what is left
+passed : (x : Bool) (r o : Answer) → ¬ (r .number ≡ 0) → cond x r o .number ≡ 0 → (x ≡ false) × ((cond x r o ≡ o) × (o .number ≡ 0))
+passed true r o h e = absurd (h e)
+passed false r o h e = (refl, (refl, e))
+
+taken : (x : Bool) (r o : Answer) → (o .number ≡ 0 → x ≡ true) → cond x r o .number ≡ 0 → (x ≡ true) × ((cond x r o ≡ r) × (r .number ≡ 0))
+taken true r o h e = (refl, (refl, e))
+taken false r o h e = let t : false ≡ true = h e in absurd (omega (arith, ap {B = ℕ} (λ (y : Bool). cond y 1 0) t))
+
+-- byte 131, and what stands behind it to the end
+all : (b l : List ℕ) → getD b 0 0 ≡ 131 → Stands b 1 l → length b ≤ 1 + length l → b ≡ 131 ∷ l
+all [] l e s h = absurd (omega (arith, s .inside))
+all (x ∷ b) l e s h =
+    let r : b ≡ l = sym (take-all (length l) b (omega arith)) ∙ s .same in
+    rw (r, e)
+
+module _ (b : List ℕ) (limit room : ℕ) where
+  -- an accepted input is read, and its terms are counted
+  pub complete : 1 ≤ limit → limit ≤ 64 → length b ≤ 16777216 → (a : Accepted b limit room) → (readAll b limit room .number ≡ 0) × (readAll b limit room .begun ≡ size (a .tree))
+  complete h k l a =
+      let s = behind-131 (a .tree) (a .is) in
+      let (n, e, c) = read-complete b 1 limit (a .tree) (a .laid) h (a .nested) k l s in
+      let len : length b ≡ suc (length (bytes (a .tree))) = ap length (a .is) in
+      let first : getD b 0 0 ≡ 131 = ap (λ (x : List ℕ). getD x 0 0) (a .is) in
+      let r : readAll b limit room ≡ readAt b 1 limit =
+      read-on b limit room (λ z. omega arith) k l (λ z. omega arith) first ∙ sym (whole-done b limit room refl n (omega arith) (omega (arith, a .room))) in
+      rw r (n, c)
+
+  -- what a Done answer says: it is the reading's, all of the input was read, and there was room
+  record Read : Type 0 where
+    short : length b ≤ 16777216
+    here : ¬ (length b ≡ 0)
+    first : getD b 0 0 ≡ 131
+    done : readAt b 1 limit .number ≡ 0
+    ends : length b ≤ readAt b 1 limit .end
+    fits : cellWords * readAt b 1 limit .begun ≤ room
+    is : readAll b limit room ≡ readAt b 1 limit
+
+  reads : readAll b limit room .number ≡ 0 → Read
+  unfolding readAll wholeFrom judged
+  reads e =
+      let a = readAt b 1 limit in
+      let (_, (p₁, e₁)) = passed (eqb limit 0 || ltb 64 limit) (before number.Limit) _ (λ z. omega arith) e in
+      let (x₂, (p₂, e₂)) = passed (ltb 16777216 (length b)) (before number.Long) _ (λ z. omega arith) e₁ in
+      let (x₃, (p₃, e₃)) = passed (eqb (length b) 0) (before number.Eof) _ (λ z. omega arith) e₂ in
+      let (x₄, (p₄, e₄)) = taken (eqb (getD b 0 0) 131) _ (before number.Tag) (λ z. absurd (omega arith)) e₃ in
+      let (x₅, (p₅, e₅)) = taken (eqb (a .number) 0) _ a (λ z. eq-eqb (a .number) 0 z) e₄ in
+      let (x₆, (p₆, e₆)) = passed (ltb (a .end) (length b)) (refusal number.Trailing (a .end) (length b - a .end) (a .begun) (a .deepest) []) _ (λ z. omega arith) e₅ in
+      let (x₇, (p₇, _)) = passed (ltb room (cellWords * a .begun)) (refusal number.Room 0 (a .begun) (a .begun) (a .deepest) []) a (λ z. omega arith) e₆ in
+      record {
+        short = ltb-false 16777216 (length b) x₂;
+        here = eqb-false (length b) 0 x₃;
+        first = eqb-true (getD b 0 0) 131 x₄;
+        done = eqb-true (a .number) 0 x₅;
+        ends = ltb-false (a .end) (length b) x₆;
+        fits = ltb-false room (cellWords * a .begun) x₇;
+        is = p₁ ∙ p₂ ∙ p₃ ∙ p₄ ∙ p₅ ∙ p₆ ∙ p₇;
+      }
+
+  -- an input that is read is accepted
+  pub sound : readAll b limit room .number ≡ 0 → Accepted b limit room
+  sound e =
+      let r = reads e in
+      let f = read-sound b 1 limit (r .done) in
+      record { tree = f .tree; laid = f .laid; is = all b (bytes (f .tree)) (r .first) (f .stands) (omega (arith, r .ends, f .ends)); nested = f .shallow; room = omega (arith, r .fits, f .counted) }
+
+  pub begun-is : (e : readAll b limit room .number ≡ 0) → readAll b limit room .begun ≡ size (sound e .tree)
+  unfolding sound
+  begun-is e = let r = reads e in ap (λ (a : Answer). a .begun) (r .is) ∙ read-sound b 1 limit (r .done) .counted
+
+  -- no answer reports more terms than bytes behind the first
+  few : readAll b limit room .begun ≤ length b - 1
+  unfolding readAll wholeFrom judged
+  few =
+      let a = readAt b 1 limit in
+      picks (eqb limit 0 || ltb 64 limit) _ _ (λ _. omega arith) (λ _.
+      picks (ltb 16777216 (length b)) _ _ (λ _. omega arith) (λ _.
+      picks (eqb (length b) 0) _ _ (λ _. omega arith) (λ e.
+      let h = bounded b 1 limit (omega (arith, eqb-false (length b) 0 e)) .counted in
+      picks (eqb (getD b 0 0) 131) _ _ (λ _.
+      picks (eqb (a .number) 0) _ a (λ _.
+      picks (ltb (a .end) (length b)) _ _ (λ _. h) (λ _. picks (ltb room (cellWords * a .begun)) _ a (λ _. h) (λ _. h))) (λ _. h)) (λ _. omega arith))))
+    where
+      picks : (x : Bool) (r o : Answer) → (x ≡ true → r .begun ≤ length b - 1) → (x ≡ false → o .begun ≤ length b - 1) → cond x r o .begun ≤ length b - 1
+      picks true r o h k = h refl
+      picks false r o h k = k refl
+
+  -- "accepted exactly when it is byte 131 and one whole term"
+  pub accepts : 1 ≤ limit → limit ≤ 64 → length b ≤ 16777216 → (readAll b limit room .number ≡ 0) ↔ Accepted b limit room
+  accepts h k l = (sound, λ a. complete h k l a .0)
+
+-- a tape that was written: its words at the front, and the old ones behind them
+module _ (t : Tree) (old : List ℕ) {new : List ℕ} (e : new ≡ taped t old) where
+  at-front : Stands new 0 (words t 1 0 0)
+  unfolding taped
+  at-front =
+      let m = drop (cellWords * size t) old in
+      rw e (record { inside = omega (arith, length-append (words t 1 0 0) m); same = take-append-seam (words t 1 0 0) m })
+
+  behind-cells : drop (cellWords * size t) new ≡ drop (cellWords * size t) old
+  unfolding taped
+  behind-cells = rw e (drop-at (words t 1 0 0) (drop (cellWords * size t) old) (cellWords * size t) (words-length t 1 0 0))
+
+-- a call of `read`: its answer, and the tape before and after
+
+pub record Promised (b : List ℕ) (limit : ℕ) (r : Answer) (old new : List ℕ) : Type 0 where
+  pub answered : r ≡ readAll b limit (length old)
+  pub left : Left b (r .number) old new
+
+module _ {b : List ℕ} {limit : ℕ} {r : Answer} {old new : List ℕ} (p : Promised b limit r old new) where
+  -- "the reported count of terms begun .. at most the bytes after the first"
+  pub counted : r .begun ≤ length b - 1
+  counted = rw (p .answered) (few b limit (length old))
+
+  -- a refused read leaves the tape
+  pub untouched : ¬ (r .number ≡ 0) → new ≡ old
+  untouched h = p .left .refused h
+
+  -- the tape of a read that was Done
+  module _ (d : r .number ≡ 0) where
+    is-done : readAll b limit (length old) .number ≡ 0
+    is-done = ap (λ (a : Answer). a .number) (sym (p .answered)) ∙ d
+
+    -- its term
+    pub accepted : Accepted b limit (length old)
+    accepted = sound b limit (length old) is-done
+
+    wrote : new ≡ taped (accepted .tree) old
+    wrote = p .left .done d (accepted .tree) (accepted .laid) (accepted .is)
+
+    -- one cell per term
+    pub cells : r .begun ≡ size (accepted .tree)
+    unfolding accepted
+    cells = ap (λ (a : Answer). a .begun) (p .answered) ∙ begun-is b limit (length old) is-done
+
+    -- its words stand at the front
+    pub front : Stands new 0 (words (accepted .tree) 1 0 0)
+    front = at-front (accepted .tree) old wrote
+
+    -- "Leftover words and cells past the last stay unchanged"
+    pub rest : drop (cellWords * r .begun) new ≡ drop (cellWords * r .begun) old
+    rest = rw cells (behind-cells (accepted .tree) old wrote)
+
+    -- the laws of demand 3, over the words as they lie in the lent run
+    pub nested : Nested new (r .begun)
+    nested = rw cells (spans.nested (accepted .tree) new front)
+
+    pub terms : (i : ℕ) → i < r .begun → IsTerm new b i
+    terms i h = spans.is-term (accepted .tree) b new (accepted .laid) (behind-131 (accepted .tree) (accepted .is)) front i (rw cells at h)
+
+    pub whole : (startAt new 0 ≡ 1) × (endAt new 0 ≡ length b)
+    whole =
+        let (h, k) = spans.whole (accepted .tree) new front in
+        (h, omega (arith, k, ap (length {A = ℕ}) (accepted .is)))
+
+-- two answers that the promise allows are one, with what they leave
+pub determined : {b : List ℕ} {limit : ℕ} {r s : Answer} {old new other : List ℕ} → Promised b limit r old new → Promised b limit s old other → (r ≡ s) × (new ≡ other)
+determined {b} {limit} {r} {s} {old} {new} {other} p q = (e, go (eqb (r .number) 0) refl)
+  where
+    e : r ≡ s
+    e = p .answered ∙ sym (q .answered)
+
+    go : (x : Bool) → eqb (r .number) 0 ≡ x → new ≡ other
+    go true h =
+        let d = eqb-true (r .number) 0 h in
+        let a = accepted p d in
+        p .left .done d (a .tree) (a .laid) (a .is) ∙ sym (q .left .done (ap (λ (a : Answer). a .number) (sym e) ∙ d) (a .tree) (a .laid) (a .is))
+    go false h =
+        let n = eqb-false (r .number) 0 h in
+        p .left .refused n ∙ sym (q .left .refused (λ z. n (ap (λ (a : Answer). a .number) e ∙ z)))

@@ -1,0 +1,58 @@
+-- What the words of a tape say of each other, as they lie in the lent run: the third demand, for whoever reads a tape by index.
+use Prim.Native.Nat.{ℕ, _+_, _*_, _≤_, _<_}
+use mathlib.Core.Path.{_≡_}
+use mathlib.Core.Logic.{_⊎_, _↔_}
+use mathlib.Core.List.{List}
+use lib.ListN.{length, getD}
+use Rattle.layouts.specs.Tree.{Tree, Stands, bytes, size, tagOf}
+use Rattle.layouts.specs.Layout.{Laid}
+use Rattle.tape.specs.Cells.{cellWords}
+
+module _ (tape : List ℕ) where
+  -- word k of cell i
+  abbrev word : ℕ → ℕ → ℕ
+  word k i = getD tape (cellWords * i + k) 0
+
+  abbrev pub tagAt : ℕ → ℕ
+  tagAt i = word 0 i
+
+  abbrev pub startAt : ℕ → ℕ
+  startAt i = word 1 i
+
+  abbrev pub endAt : ℕ → ℕ
+  endAt i = word 2 i
+
+  abbrev pub parentAt : ℕ → ℕ
+  parentAt i = word 3 i
+
+  abbrev pub sizeAt : ℕ → ℕ
+  sizeAt i = word 4 i
+
+  -- cell j's span lies inside cell i's
+  pub record Inside (i j : ℕ) : Type 0 where
+    pub after : startAt i ≤ startAt j
+    pub before : endAt j ≤ endAt i
+
+  -- the laws of a tape of n cells
+  pub record Nested (n : ℕ) : Type 0 where
+    -- "starts strictly rising"
+    pub rises : (i j : ℕ) → i < j → j < n → startAt i < startAt j
+    pub some : (i : ℕ) → i < n → startAt i < endAt i
+    -- "two spans lie apart or one inside the other"
+    pub apart : (i j : ℕ) → i < n → j < n → ((endAt i ≤ startAt j) ⊎ (endAt j ≤ startAt i)) ⊎ (Inside i j ⊎ Inside j i)
+    -- "and those inside a cell's, its own first, are just the cells from it on that its subtree number counts"
+    pub subtree : (i j : ℕ) → i < n → j < n → Inside i j ↔ ((i ≤ j) × (j < i + sizeAt i))
+    pub counted : (i : ℕ) → i < n → (1 ≤ sizeAt i) × (i + sizeAt i ≤ n)
+    -- the parent is the innermost cell around it, and "the root's parent is 0"
+    pub root : parentAt 0 ≡ 0
+    pub parent : (j : ℕ) → 0 < j → j < n → (parentAt j < j) × Inside (parentAt j) j
+    pub innermost : (i j : ℕ) → i < n → j < n → ¬ (i ≡ j) → Inside i j → Inside i (parentAt j)
+
+  -- cell i is the cell of a whole term of b
+  pub record IsTerm (b : List ℕ) (i : ℕ) : Type 0 where
+    pub tree : Tree
+    pub laid : Laid tree
+    pub stands : Stands b (startAt i) (bytes tree)
+    pub tag : tagAt i ≡ tagOf tree
+    pub end : endAt i ≡ startAt i + length (bytes tree)
+    pub size : sizeAt i ≡ size tree
