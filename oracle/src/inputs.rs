@@ -2,6 +2,7 @@
 //! it. The same words on the command line always print the same lines.
 
 mod bounds;
+mod cuts;
 #[allow(dead_code)]
 mod hex;
 mod make;
@@ -40,7 +41,7 @@ fn main() {
     let words: Vec<String> = std::env::args().skip(1).collect();
     let words: Vec<&str> = words.iter().map(String::as_str).collect();
     let Some(requests) = requests(&words) else {
-        eprintln!("usage: inputs short, inputs bounds, or inputs KIND SEED COUNT");
+        eprintln!("usage: inputs short, inputs bounds, inputs cuts, or inputs KIND SEED COUNT");
         eprintln!("KIND: valid, damaged, headers, fragments, texts, all");
         std::process::exit(1);
     };
@@ -59,6 +60,7 @@ fn requests(words: &[&str]) -> Option<Box<dyn Iterator<Item = String>>> {
     match words {
         ["short"] => Some(Box::new(short::requests())),
         ["bounds"] => Some(Box::new(bounds::requests().into_iter())),
+        ["cuts"] => Some(Box::new(cuts::requests())),
         [kind, seed, count] => {
             let one: fn(&mut Random) -> String = match *kind {
                 "valid" => wild::valid,

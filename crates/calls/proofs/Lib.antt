@@ -1,2 +1,3 @@
 pub mod Digits
-pub mod Paths
+pub mod Room
+pub mod Signs

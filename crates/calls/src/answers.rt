@@ -1,113 +1,131 @@
-// Our calls, and their answers as text.
+// Our calls on terms and text, and their answers as text.
+use crate::input;
 use crate::output;
+use terms::Answer;
 use terms::Kind;
 use terms::Segment;
 ghost use Prim.Native.Nat.{_≤_};
 ghost use lib.ListN.{length};
 
-// Bytes are left behind the term.
-const TRAILING: u64 = 7;
-
-// What is asked of the bytes. Read has its limit and its place.
-pub enum Call {
-    Term,
-    Utf8,
-    Literal,
-    Read(usize, usize),
-}
-
-// Makes a call, and adds its answer without the end of line.
-pub fn answer(call: Call, b: &[u8], out: &mut [u8], at: usize) -> usize
+// How many leading bytes form whole good characters.
+pub fn utf8(b: &[u8], out: &mut [u8], at: usize) -> usize
     requires { ⌜ (64 ≤ length (now out)) × (at ≤ length (now out)) ⌝ }
     ensures { λ r. ⌜ r ≤ length (now (out .entry)) ⌝ }
 {
-    match call {
-        Call::Term => term(b, out, at),
-        Call::Utf8 => output::field(out, at, b"good=", utf8::good(b) as u64),
-        Call::Literal => output::field(out, at, b"literal=", judged(b)),
-        Call::Read(limit, place) => read(b, limit, place, out, at),
-    }
+    output::field(out, at, b"good=", utf8::good(b) as u64)
 }
 
 // 1 where a text without its trailing zero bytes is a number text, and 0.
+pub fn literal(b: &[u8], out: &mut [u8], at: usize) -> usize
+    requires { ⌜ (64 ≤ length (now out)) × (at ≤ length (now out)) ⌝ }
+    ensures { λ r. ⌜ r ≤ length (now (out .entry)) ⌝ }
+{
+    output::field(out, at, b"literal=", judged(b))
+}
+
 fn judged(b: &[u8]) -> u64 {
     let n = literal::trim(b);
     literal::literal(&b[..n]) as u64
 }
 
-// Byte 131, one term, and nothing behind it.
-fn term(b: &[u8], out: &mut [u8], at: usize) -> usize
+// Byte 131, one term, and nothing behind it. Its tape isn't shown.
+pub fn term(b: &[u8], run: &mut [u32], out: &mut [u8], at: usize) -> usize
     requires { ⌜ (64 ≤ length (now out)) × (at ≤ length (now out)) ⌝ }
     ensures { λ r. ⌜ r ≤ length (now (out .entry)) ⌝ }
 {
-    if b.len() == 0 {
-        return refusal(rows::EOF, 0, 0, out, at);
+    let a = tape::read(b, 64, run);
+    if a.number == 0 {
+        return output::text(out, at, b"answer=0");
     }
-    if b[0] != 131 {
-        return refusal(rows::TAG, 0, 0, out, at);
-    }
-    let a = terms::read(b, 1, 64);
-    if a.number != 0 {
-        let begun = refusal(a.number, a.offset, a.extra, out, at);
-        let path = a.path;
-        return segments(path, a.len, out, begun);
-    }
-    if a.end < b.len() {
-        return refusal(TRAILING, a.end, (b.len() - a.end) as u64, out, at);
-    }
-    output::field(out, at, b"answer=", 0)
-}
-
-// A refusal, up to its path.
-fn refusal(number: u64, offset: usize, extra: u64, out: &mut [u8], at: usize) -> usize
-    requires { ⌜ (64 ≤ length (now out)) × (at ≤ length (now out)) ⌝ }
-    ensures { λ r. ⌜ r ≤ length (now (out .entry)) ⌝ }
-{
-    let mut put = output::field(out, at, b"answer=", number);
-    put = output::field(out, put, b" offset=", offset as u64);
-    put = output::field(out, put, b" extra=", extra);
-    output::text(out, put, b" path=")
+    let put = fault(a.number, a.offset, a.extra, out, at);
+    let path = a.path;
+    segments(path, a.len, out, put)
 }
 
 // The term at a place, with all that reading answers.
-fn read(b: &[u8], limit: usize, place: usize, out: &mut [u8], at: usize) -> usize
+pub fn read(b: &[u8], limit: usize, place: usize, out: &mut [u8], at: usize) -> usize
     requires { ⌜ (64 ≤ length (now out)) × (at ≤ length (now out)) ⌝ }
     ensures { λ r. ⌜ r ≤ length (now (out .entry)) ⌝ }
 {
-    let a = terms::read(b, place, limit);
-    let ended = outcome(a.number, a.end, a.offset, a.extra, out, at);
-    let counted = counts(a.begun, a.deepest, out, ended);
-    let path = a.path;
-    segments(path, a.len, out, counted)
+    whole(terms::read(b, place, limit), out, at)
 }
 
-fn outcome(number: u64, end: usize, offset: usize, extra: u64, out: &mut [u8], at: usize) -> usize
+// The value of an integer in the map at a place.
+pub fn find_number(
+    b: &[u8],
+    limit: usize,
+    place: usize,
+    number: i64,
+    out: &mut [u8],
+    at: usize,
+) -> usize
+    requires { ⌜ (64 ≤ length (now out)) × (at ≤ length (now out)) ⌝ }
+    ensures { λ r. ⌜ r ≤ length (now (out .entry)) ⌝ }
+{
+    whole(lookup::find_number(b, place, limit, number), out, at)
+}
+
+// The same of a name: the first n bytes. The input is what follows it.
+pub fn find_name(b: &[u8], limit: usize, place: usize, n: usize, out: &mut [u8], at: usize) -> usize
+    requires { ⌜ (64 ≤ length (now out)) × (at ≤ length (now out)) ⌝ }
+    ensures { λ r. ⌜ r ≤ length (now (out .entry)) ⌝ }
+{
+    if b.len() < n {
+        return output::text(out, at, b"unknown");
+    }
+    whole(lookup::find_name(&b[n..], place, limit, &b[..n]), out, at)
+}
+
+// All of an answer.
+fn whole(a: Answer, out: &mut [u8], at: usize) -> usize
+    requires { ⌜ (64 ≤ length (now out)) × (at ≤ length (now out)) ⌝ }
+    ensures { λ r. ⌜ r ≤ length (now (out .entry)) ⌝ }
+{
+    let mut put = output::field(out, at, b"answer=", a.number);
+    put = output::field(out, put, b" end=", a.end as u64);
+    put = output::field(out, put, b" offset=", a.offset as u64);
+    put = output::field(out, put, b" extra=", a.extra);
+    put = counts(a.begun, a.deepest, out, put);
+    let path = a.path;
+    segments(path, a.len, out, put)
+}
+
+pub fn fault(number: u64, offset: usize, extra: u64, out: &mut [u8], at: usize) -> usize
     requires { ⌜ (64 ≤ length (now out)) × (at ≤ length (now out)) ⌝ }
     ensures { λ r. ⌜ r ≤ length (now (out .entry)) ⌝ }
 {
     let mut put = output::field(out, at, b"answer=", number);
-    put = output::field(out, put, b" end=", end as u64);
     put = output::field(out, put, b" offset=", offset as u64);
     output::field(out, put, b" extra=", extra)
 }
 
-fn counts(begun: usize, deepest: usize, out: &mut [u8], at: usize) -> usize
+pub fn counts(begun: usize, deepest: usize, out: &mut [u8], at: usize) -> usize
     requires { ⌜ (64 ≤ length (now out)) × (at ≤ length (now out)) ⌝ }
     ensures { λ r. ⌜ r ≤ length (now (out .entry)) ⌝ }
 {
-    let mut put = output::field(out, at, b" begun=", begun as u64);
-    put = output::field(out, put, b" deepest=", deepest as u64);
-    output::text(out, put, b" path=")
+    let put = output::field(out, at, b" begun=", begun as u64);
+    output::field(out, put, b" deepest=", deepest as u64)
 }
 
-// A path's segments, joined by /.
-fn segments(path: [Segment; 64], len: usize, out: &mut [u8], at: usize) -> usize
-    requires { ⌜ (len ≤ 64) × ((64 ≤ length (now out)) × (at ≤ length (now out))) ⌝ }
+// What a header answers, and a fragment that is refused.
+pub fn rest(number: u64, rest: usize, extra: u64, out: &mut [u8], at: usize) -> usize
+    requires { ⌜ (64 ≤ length (now out)) × (at ≤ length (now out)) ⌝ }
     ensures { λ r. ⌜ r ≤ length (now (out .entry)) ⌝ }
 {
-    let mut put = at;
+    let mut put = output::field(out, at, b"answer=", number);
+    put = output::field(out, put, b" rest=", rest as u64);
+    output::field(out, put, b" extra=", extra)
+}
+
+// A path's segments, joined by /. It holds sixty-four, and no answer has more.
+pub fn segments(path: [Segment; 64], len: usize, out: &mut [u8], at: usize) -> usize
+    requires { ⌜ (64 ≤ length (now out)) × (at ≤ length (now out)) ⌝ }
+    ensures { λ r. ⌜ r ≤ length (now (out .entry)) ⌝ }
+{
+    let n = input::least(len, 64);
+    let mut put = output::text(out, at, b" path=");
     let mut i = 0;
-    while i < len {
+    while i < n {
         let begin = joint(i, out, put);
         put = segment(path[i], out, begin);
         i += 1;

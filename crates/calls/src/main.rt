@@ -2,149 +2,85 @@
 //
 // The oracle answers the same lines from the Rust, so that a comparison is two runs and a diff. Whole lines are taken from what is read,
 // each is answered, and what is left of the last one is kept until more is read. Every line has one answer, the last one also where it
-// has no end of line.
+// has no end of line. The names of headers live from line to line: their record goes from answer to answer by value, and the store that
+// belongs to it is lent.
 mod answers;
+mod asked;
+mod cells;
 mod input;
+mod names;
 mod output;
+mod parts;
+mod requests;
 mod words;
 
-use answers::Call;
-use words::Number;
+use cache::Cache;
+use names::Reached;
+ghost use mathlib.Core.Path.{_≡_};
 ghost use Prim.Native.Nat.{_≤_, _<_};
 ghost use lib.ListN.{length};
 
 fn main() {
     let mut text = [0u8; 262144];
     let mut bytes = io::large_buffer();
+    let mut store = io::large_buffer();
+    let mut run = space();
     let mut out = io::large_buffer();
-    serve(&mut text, &mut bytes, &mut out);
+    serve(&mut text, &mut bytes, &mut store, &mut run, &mut out);
+}
+
+// The words of a tape: five for each term that a request of 65,536 bytes can have.
+fn space() -> [u32; 327680]
+    ensures { λ r. ⌜ 327680 ≡ length r ⌝ }
+{
+    [0; 327680]
 }
 
 // Answers all of standard input.
-fn serve(text: &mut [u8], bytes: &mut [u8], out: &mut [u8])
-    requires { ⌜ (131120 < length (now text)) × ((65536 ≤ length (now bytes)) × (64 ≤ length (now out))) ⌝ }
-{
-    let kept = whole_lines(text, bytes, out);
-    if 0 < kept {
-        let at = request(&text[..kept], bytes, out, 0);
-        output::flush(out, at);
-    }
-}
-
-// Answers all lines that have an end. Answers how many bytes are left of a last one without.
 // A proved loop has to end, and nothing says that the input does: it counts its turns down from a number that no run uses up.
-fn whole_lines(text: &mut [u8], bytes: &mut [u8], out: &mut [u8]) -> usize
-    requires { ⌜ (131120 < length (now text)) × ((65536 ≤ length (now bytes)) × (64 ≤ length (now out))) ⌝ }
-    ensures { λ r. ⌜ r ≤ 131120 ⌝ }
+fn serve(text: &mut [u8], bytes: &mut [u8], store: &mut [u8], run: &mut [u32], out: &mut [u8])
+    requires { ⌜ (131143 < length (now text)) × ((65536 ≤ length (now bytes)) × (64 ≤ length (now out))) ⌝ }
 {
+    let mut names = cache::empty();
     let mut kept = 0;
     let mut turns = u64::MAX;
     while 0 < turns {
         let end = input::fill(text, kept);
         if end == kept {
-            return kept;
+            return;
         }
-        let from = lines(text, end, bytes, out);
-        kept = input::keep(text, from, end);
+        let gone = lines(text, end, names, bytes, store, run, out);
+        kept = input::keep(text, gone.at, end);
+        names = gone.names;
         turns -= 1;
     }
-    kept
 }
 
 // Answers the lines that end before `end`. Answers where the unfinished one begins.
-fn lines(text: &[u8], end: usize, bytes: &mut [u8], out: &mut [u8]) -> usize
+fn lines(
+    text: &[u8],
+    end: usize,
+    before: Cache,
+    bytes: &mut [u8],
+    store: &mut [u8],
+    run: &mut [u32],
+    out: &mut [u8],
+) -> Reached
     requires { ⌜ (end ≤ length (now text)) × ((65536 ≤ length (now bytes)) × (64 ≤ length (now out))) ⌝ }
-    ensures { λ r. ⌜ r ≤ end ⌝ }
+    ensures { λ r. ⌜ r .at ≤ end ⌝ }
 {
+    let mut names = before;
     let mut at = 0;
     let mut from = 0;
     let mut stop = input::line_end(text, from, end);
     while stop < end {
-        at = request(&text[from..stop], bytes, out, at);
-        from = stop + 1;
+        let next = stop + 1;
+        let put = requests::request(&text[from..stop], names, bytes, store, run, out, at);
+        at = output::text(out, put.at, b"\n");
+        names = put.names;
+        from = next;
         stop = input::line_end(text, from, end);
     }
     output::flush(out, at);
-    from
-}
-
-// Answers a line. No request of 65,536 bytes has more than 131,119 letters.
-fn request(line: &[u8], bytes: &mut [u8], out: &mut [u8], at: usize) -> usize
-    requires { ⌜ (65536 ≤ length (now bytes)) × ((64 ≤ length (now out)) × (at ≤ length (now out))) ⌝ }
-    ensures { λ r. ⌜ r ≤ length (now (out .entry)) ⌝ }
-{
-    if input::LONGEST < line.len() {
-        return long(out, at);
-    }
-    let term = words::after(line, b"term ");
-    if 0 < term {
-        return call(Call::Term, &line[term..], bytes, out, at);
-    }
-    let utf8 = words::after(line, b"utf8 ");
-    if 0 < utf8 {
-        return call(Call::Utf8, &line[utf8..], bytes, out, at);
-    }
-    let literal = words::after(line, b"literal ");
-    if 0 < literal {
-        return call(Call::Literal, &line[literal..], bytes, out, at);
-    }
-    let read = words::after(line, b"read ");
-    if 0 < read {
-        return reading(&line[read..], bytes, out, at);
-    }
-    unknown(out, at)
-}
-
-// LIMIT AT HEX
-fn reading(line: &[u8], bytes: &mut [u8], out: &mut [u8], at: usize) -> usize
-    requires { ⌜ (65536 ≤ length (now bytes)) × ((64 ≤ length (now out)) × (at ≤ length (now out))) ⌝ }
-    ensures { λ r. ⌜ r ≤ length (now (out .entry)) ⌝ }
-{
-    let first = words::word_end(line, 0);
-    if first == line.len() {
-        return unknown(out, at);
-    }
-    let begin = first + 1;
-    let second = words::word_end(line, begin);
-    if second == line.len() {
-        return unknown(out, at);
-    }
-    let Number::Is(limit) = words::value(&line[..first]) else {
-        return unknown(out, at);
-    };
-    let Number::Is(place) = words::value(&line[begin..second]) else {
-        return unknown(out, at);
-    };
-    let rest = second + 1;
-    call(Call::Read(limit, place), &line[rest..], bytes, out, at)
-}
-
-// Makes a call over the bytes that a word spells.
-fn call(call: Call, word: &[u8], bytes: &mut [u8], out: &mut [u8], at: usize) -> usize
-    requires { ⌜ (65536 ≤ length (now bytes)) × ((64 ≤ length (now out)) × (at ≤ length (now out))) ⌝ }
-    ensures { λ r. ⌜ r ≤ length (now (out .entry)) ⌝ }
-{
-    if 131072 < word.len() {
-        return long(out, at);
-    }
-    if !words::decode(word, bytes) {
-        return unknown(out, at);
-    }
-    let n = word.len() / 2;
-    let end = answers::answer(call, &bytes[..n], out, at);
-    output::text(out, end, b"\n")
-}
-
-fn long(out: &mut [u8], at: usize) -> usize
-    requires { ⌜ (64 ≤ length (now out)) × (at ≤ length (now out)) ⌝ }
-    ensures { λ r. ⌜ r ≤ length (now (out .entry)) ⌝ }
-{
-    output::text(out, at, b"long\n")
-}
-
-fn unknown(out: &mut [u8], at: usize) -> usize
-    requires { ⌜ (64 ≤ length (now out)) × (at ≤ length (now out)) ⌝ }
-    ensures { λ r. ⌜ r ≤ length (now (out .entry)) ⌝ }
-{
-    output::text(out, at, b"unknown\n")
+    Reached { at: from, names }
 }

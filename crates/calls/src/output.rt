@@ -51,3 +51,39 @@ pub fn field(out: &mut [u8], at: usize, name: &[u8], n: u64) -> usize
     let named = text(out, at, name);
     number(out, named, n)
 }
+
+// Bytes as hex, - where there are none.
+pub fn hex(out: &mut [u8], at: usize, bytes: &[u8]) -> usize
+    requires { ⌜ (64 ≤ length (now out)) × (at ≤ length (now out)) ⌝ }
+    ensures { λ r. ⌜ r ≤ length (now (out .entry)) ⌝ }
+{
+    if bytes.len() == 0 {
+        return text(out, at, b"-");
+    }
+    let mut put = at;
+    let mut i = 0;
+    while i < bytes.len() {
+        put = pair(out, put, bytes[i]);
+        i += 1;
+    }
+    put
+}
+
+// A byte as two letters.
+fn pair(out: &mut [u8], at: usize, byte: u8) -> usize
+    requires { ⌜ (64 ≤ length (now out)) × (at ≤ length (now out)) ⌝ }
+    ensures { λ r. ⌜ r ≤ length (now (out .entry)) ⌝ }
+{
+    let letters = [letter(byte / 16), letter(byte % 16)];
+    text(out, at, &letters)
+}
+
+fn letter(digit: u8) -> u8
+    requires { ⌜ digit ≤ 15 ⌝ }
+{
+    if digit < 10 {
+        b'0' + digit
+    } else {
+        b'a' - 10 + digit
+    }
+}

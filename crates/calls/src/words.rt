@@ -1,5 +1,5 @@
 // What request lines are made of: words with one space between them, decimal numbers, and bytes as lower-case hex.
-ghost use Prim.Native.Nat.{_≤_, _*_};
+ghost use Prim.Native.Nat.{_≤_, _/_};
 ghost use lib.ListN.{length};
 
 // A number that fits, or a word that is none.
@@ -8,21 +8,31 @@ pub enum Number {
     Not,
 }
 
-// Where what follows these first letters of a line begins, 0 where it begins with others.
-pub fn after(line: &[u8], letters: &[u8]) -> usize
-    ensures { λ r. ⌜ r ≤ length (now (line .entry)) ⌝ }
-{
-    if line.len() < letters.len() {
-        return 0;
-    }
+// The same of numbers that may have a sign.
+pub enum Integer {
+    Is(i64),
+    Not,
+}
+
+// A number of a line, and where what follows the space behind it begins: 0 where a line has no such number there.
+pub struct Taken {
+    pub value: usize,
+    pub next: usize,
+}
+
+// The letters of a word as one number: digits to the base 256, behind a 1, so that no two words have the same. 0 where a word is too long
+// for that.
+pub fn letters(word: &[u8]) -> u64 {
+    let mut n = 1u64;
     let mut i = 0;
-    while i < letters.len() {
-        if line[i] != letters[i] {
+    while i < word.len() {
+        if u64::MAX / 512 < n {
             return 0;
         }
+        n = n * 256 + byte(word[i]);
         i += 1;
     }
-    i
+    n
 }
 
 // Where the word that begins at `from` ends: at a space, or with the line.
@@ -61,9 +71,70 @@ pub fn value(word: &[u8]) -> Number {
     Number::Is(value)
 }
 
+// The decimal number that a word is, with a minus before it or without.
+pub fn signed(word: &[u8]) -> Integer {
+    let minus = sign(word);
+    let Number::Is(n) = value(&word[minus..]) else {
+        return Integer::Not;
+    };
+    if minus == 0 {
+        return above(n);
+    }
+    below(n)
+}
+
+// The letters that a minus before a number takes.
+fn sign(word: &[u8]) -> usize
+    ensures { λ r. ⌜ r ≤ length (now (word .entry)) ⌝ }
+{
+    if word.len() == 0 {
+        return 0;
+    }
+    if word[0] == b'-' {
+        return 1;
+    }
+    0
+}
+
+fn above(n: usize) -> Integer {
+    if 9223372036854775807 < n {
+        return Integer::Not;
+    }
+    Integer::Is(n as i64)
+}
+
+// Minus n. 2^63 fits only here.
+fn below(n: usize) -> Integer {
+    if n == 0 {
+        return Integer::Is(0);
+    }
+    if 9223372036854775808 < n {
+        return Integer::Not;
+    }
+    Integer::Is(-1 - ((n - 1) as i64))
+}
+
+// The number at a place of a line.
+pub fn take(line: &[u8], from: usize) -> Taken
+    requires { ⌜ from ≤ length (now line) ⌝ }
+    ensures { λ r. ⌜ r .next ≤ length (now (line .entry)) ⌝ }
+{
+    let end = word_end(line, from);
+    if end == line.len() {
+        return Taken { value: 0, next: 0 };
+    }
+    let Number::Is(value) = value(&line[from..end]) else {
+        return Taken { value: 0, next: 0 };
+    };
+    Taken {
+        value,
+        next: end + 1,
+    }
+}
+
 // Puts the bytes that a word spells at the start of `bytes`, half as many as it has letters; `-` is none. Answers whether it spells bytes.
 pub fn decode(word: &[u8], bytes: &mut [u8]) -> bool
-    requires { ⌜ length (now word) ≤ 2 * length (now bytes) ⌝ }
+    requires { ⌜ length (now word) / 2 ≤ length (now bytes) ⌝ }
 {
     if word.len() == 0 {
         return false;
@@ -78,7 +149,7 @@ pub fn decode(word: &[u8], bytes: &mut [u8]) -> bool
 }
 
 fn pairs(word: &[u8], bytes: &mut [u8]) -> bool
-    requires { ⌜ length (now word) ≤ 2 * length (now bytes) ⌝ }
+    requires { ⌜ length (now word) / 2 ≤ length (now bytes) ⌝ }
 {
     let mut i = 0;
     while i < word.len() / 2 {
@@ -105,6 +176,12 @@ fn digit(letter: u8) -> u8
         b'a'..=b'f' => letter - b'a' + 10,
         _ => 16,
     }
+}
+
+fn byte(x: u8) -> u64
+    ensures { λ r. ⌜ r ≤ 255 ⌝ }
+{
+    x as u64
 }
 
 fn wide(x: u8) -> usize

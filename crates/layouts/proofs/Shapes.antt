@@ -5,7 +5,9 @@ use native.Mathlib.Omega.{arith}
 use mathlib.Core.Path.{_≡_, refl, ap, sym, _∙_, subst}
 use mathlib.Core.List.{List, [], _∷_, _++_}
 use lib.ListN.{length, getD, length-append}
-use borrow.Author.Tests.{lt-ltb, le-ltb, le-leb, lt-leb}
+use mathlib.Core.Bool.{Bool, true, false, cond, _&&_}
+use lib.Dec.{eqb, ltb, leb}
+use borrow.Author.Tests.{lt-ltb, le-ltb, le-leb, lt-leb, eqb-true, eqb-false, ne-eqb}
 use Rattle.fields.specs.Field.{fieldAt}
 use Rattle.fields.specs.declared.Field.{Field}
 use Rattle.fields.specs.declared.Field.the-variants as field
@@ -14,7 +16,7 @@ use Rattle.layouts.specs.declared.Shape.{Shape}
 use Rattle.layouts.specs.Tree.{Tree, Forest, node, none, more, leaf, tagOf, frontOf, count, bytes, bytesAll, Stands}
 use Rattle.layouts.specs.Layout as layout
 use Rattle.layouts.specs.Layout.{Number, IsAtom, Leaf, Laid, AllLaid}
-use Rattle.layouts.specs.Shape.{known, numberAt, ends, holds, shapeBy, shapeAt, shapeOf}
+use Rattle.layouts.specs.Shape.{known, numberAt, ends, holds, shapeBy, shapeAt, shapeOf, shortBy, shortAt}
 use Rattle.layouts.proofs.Stands.{left, right, byte, behind, spells}
 
 -- a number that was read, with a bound by its width
@@ -40,6 +42,44 @@ module _ (b : List ℕ) (p : ℕ) where
   pub large : p < length b → 16777216 < length b → ends p ≡ shapeAt b p
   unfolding shapeAt
   large h l = rw (lt-ltb p (length b) h, lt-leb (length b) 16777216 l)
+
+  -- and the short way
+  pub short-tag : (tag : ℕ) → p < length b → length b ≤ 16777216 → getD b p 0 ≡ tag → shortBy b p tag ≡ shortAt b p
+  unfolding shortAt
+  short-tag tag h l e = rw (lt-ltb p (length b) h, le-leb (length b) 16777216 l, e)
+
+  pub short-past : length b ≤ p → 0 ≡ shortAt b p
+  unfolding shortAt
+  short-past h = rw (le-ltb p (length b) h)
+
+  pub short-large : p < length b → 16777216 < length b → 0 ≡ shortAt b p
+  unfolding shortAt
+  short-large h l = rw (lt-ltb p (length b) h, lt-leb (length b) 16777216 l)
+
+  abbrev Short : ℕ → Type 0
+  Short t = ¬ (shortBy b p t ≡ 0) → shapeBy b p t ≡ ends (shortBy b p t)
+
+  by-tags : (t : ℕ) → Short t
+  unfolding shortBy shapeBy
+  by-tags t =
+      tagged t 97 (λ _. refl) (λ h₁. tagged t 98 (λ _. refl) (λ h₂. tagged t 70 (λ _. refl) (λ h₃.
+      tagged t 106 (λ _. refl) (λ h₄. tagged t 119 (λ _. refl) (λ h₅. tagged t 109 (λ _. refl) (λ h₆ k.
+      absurd (k (rw (ne-eqb t 97 h₁, ne-eqb t 98 h₂, ne-eqb t 70 h₃, ne-eqb t 106 h₄, ne-eqb t 119 h₅, ne-eqb t 109 h₆)))))))))
+    where
+      tagged : (t n : ℕ) → Short n → (¬ (t ≡ n) → Short t) → Short t
+      tagged t n hit miss = go (eqb t n) refl
+        where
+          go : (x : Bool) → eqb t n ≡ x → Short t
+          go true e = rw (eqb-true t n e) hit
+          go false e = miss (eqb-false t n e)
+
+  pub short-is : ¬ (shortAt b p ≡ 0) → shapeAt b p ≡ ends (shortAt b p)
+  unfolding shortAt shapeAt
+  short-is = go (ltb p (length b) && leb (length b) 16777216)
+    where
+      go : (x : Bool) → ¬ (cond x (shortBy b p (getD b p 0)) 0 ≡ 0) → cond x (shapeBy b p (getD b p 0)) (ends p) ≡ ends (cond x (shortBy b p (getD b p 0)) 0)
+      go true h = by-tags (getD b p 0) h
+      go false h = absurd (h refl)
 
   -- a number that stands behind the tag is told there
   told : {k n : ℕ} {l : List ℕ} → Number k l n → Stands b (p + 1) l → numberAt k b (p + 1) ≡ n

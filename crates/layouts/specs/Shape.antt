@@ -55,3 +55,17 @@ shapeAt b p = cond (ltb p (length b) && leb (length b) 16777216) (shapeBy b p (g
 -- the shape of a tree that stands at p
 abbrev pub shapeOf : Tree → ℕ → Shape
 shapeOf (node tag front kids back) p = holds (p + 1 + length front) (count kids) (length back)
+
+-- the end of one of the commonest terms without children, by its tag; 0 says nothing
+unfoldable pub shortBy : List ℕ → ℕ → ℕ → ℕ
+shortBy b p tag =
+    cond (eqb tag 97) (p + 2)
+    (cond (eqb tag 98) (p + 5)
+    (cond (eqb tag 70) (p + 9)
+    (cond (eqb tag 106) (p + 1)
+    (cond (eqb tag 119) (p + 2 + numberAt 1 b (p + 1))
+    (cond (eqb tag 109) (p + 5 + numberAt 4 b (p + 1))
+    0)))))
+
+unfoldable pub shortAt : List ℕ → ℕ → ℕ
+shortAt b p = cond (ltb p (length b) && leb (length b) 16777216) (shortBy b p (getD b p 0)) 0

@@ -6,7 +6,7 @@
 use fields::Field;
 ghost use Prim.Native.Nat.{_<_};
 ghost use mathlib.Core.Path.{_≡_};
-ghost use Rattle.layouts.specs.Shape.{known, numberAt, ends, holds, shapeAt};
+ghost use Rattle.layouts.specs.Shape.{known, numberAt, ends, holds, shapeAt, shortAt};
 
 // The first child's place, or the end of a term without children; how many children; the bytes behind them.
 pub struct Shape {
@@ -46,6 +46,28 @@ pub fn shape_at(b: &[u8], pos: usize) -> Shape
         113 => holds(pos + 1, 3, 0),
         112 => holds(pos + 30, four(b, pos + 26) + 4, 0),
         _ => ends(pos),
+    }
+}
+
+// The end of one of the commonest terms without children, for a loop over children: 0 says nothing.
+pub fn short_at(b: &[u8], pos: usize) -> usize
+    ensures { λ r. ⌜ r ≡ shortAt (now (b .entry)) pos ⌝ }
+{
+    if b.len() <= pos {
+        return 0;
+    }
+    if 16777216 < b.len() {
+        return 0;
+    }
+    let tag = b[pos];
+    match tag {
+        97 => pos + 2,
+        98 => pos + 5,
+        70 => pos + 9,
+        106 => pos + 1,
+        119 => pos + 2 + one(b, pos + 1),
+        109 => pos + 5 + four(b, pos + 1),
+        _ => 0,
     }
 }
 

@@ -4,7 +4,9 @@ use Prim.Native.Nat.{ℕ, _≤_}
 use mathlib.Core.Path.{_≡_, refl}
 use mathlib.Core.List.{List, [], _∷_}
 use lib.IntN.{pos, negsuc}
-use borrow.Author.Tests.{le-ltb}
+use native.Mathlib.Omega.{arith}
+use lib.ListN.{length}
+use borrow.Author.Tests.{le-ltb, eq-eqb}
 use Rattle.fields.specs.Be.{be, beAt, signed}
 use Rattle.fields.specs.Field.{holds}
 use Rattle.rows.specs.Row as row
@@ -22,6 +24,11 @@ use Rattle.heads.proofs.Examples as heads
 use Rattle.tape.specs.Read.{judged, wholeFrom, readAll}
 use Rattle.lookup.specs.Lookup.{Looked, number as integer}
 use Rattle.lookup.proofs.Examples.{last-wins}
+use Rattle.cache.specs.Names.{storeBytes, name, view}
+use Rattle.cache.specs.Header.{Said, headerIn, markedAll, storedAll}
+use Rattle.cache.proofs.Marks.{marked-filled}
+use Rattle.cache.proofs.Stores.{stored-same}
+use Rattle.cache.proofs.Examples as header
 
 -- a read that is refused, at an offset, with so many terms begun; and one that is Done where there is room for its cells
 abbrev Refused : List ℕ → (limit number offset extra begun deepest : ℕ) → List Segment → Type 0
@@ -29,6 +36,12 @@ Refused b limit n o x c d p = (room : ℕ) → readAll b limit room ≡ refusal 
 
 abbrev Done : List ℕ → (limit words : ℕ) → Type 0
 Done b limit words = (room : ℕ) → words ≤ room → readAll b limit room .number ≡ 0
+
+-- a header that is Done, with the rest at 7, and leaves "a" in slot 5
+pub record Heads (s : Said) (words store : List ℕ) : Type 0 where
+  pub done : s .number ≡ 0
+  pub rest : s .rest ≡ 7
+  pub slot : view (markedAll (s .steps) words) (storedAll (s .steps) store) 5 ≡ name (97 ∷ [])
 
 pub record Starred : Type 0 where
   -- "empty: Eof at 0. 131: Eof at 1. 130: Tag at 0, terms 0."
@@ -53,10 +66,24 @@ pub record Starred : Type 0 where
   pub seven-bits : Refused (131 ∷ 77 ∷ 0 ∷ 0 ∷ 0 ∷ 0 ∷ 7 ∷ []) 64 number.Bits 1 0 1 1 []
   -- "131 116 0 0 0 2 97 1 97 7 98 0 0 0 1 97 8: key 1 is found at 15."
   pub found : (r : Answer) → Looked (131 ∷ 116 ∷ 0 ∷ 0 ∷ 0 ∷ 2 ∷ 97 ∷ 1 ∷ 97 ∷ 7 ∷ 98 ∷ 0 ∷ 0 ∷ 0 ∷ 1 ∷ 97 ∷ 8 ∷ []) 1 64 (integer (pos 1)) r → (r .number ≡ 0) × (r .offset ≡ 15)
+  -- "header 131 68 1 8 5 1 97: slot 5 is "a", rest at 7; 131 68 1 9 5 1 97: Eof." Over any cache
+  pub header : (words store : List ℕ) → length words ≡ 4 → length store ≡ storeBytes →
+      Heads (headerIn (131 ∷ 68 ∷ 1 ∷ 8 ∷ 5 ∷ 1 ∷ 97 ∷ []) (length store)) words store
+  pub long-header : headerIn (131 ∷ 68 ∷ 1 ∷ 9 ∷ 5 ∷ 1 ∷ 97 ∷ []) storeBytes .number ≡ number.Eof
 
 minus-one : headAt (131 ∷ 98 ∷ 255 ∷ 255 ∷ 255 ∷ 255 ∷ []) 1 ≡ record { tag = 98; value = value.Integer (negsuc 0) }
 unfolding headAt head.term head.leaf head.fixed leaf row.bytes holds beAt be signed
 minus-one = refl
+
+one-name : (words store : List ℕ) → length words ≡ 4 → length store ≡ storeBytes → Heads (headerIn (131 ∷ 68 ∷ 1 ∷ 8 ∷ 5 ∷ 1 ∷ 97 ∷ []) (length store)) words store
+unfolding headerIn markedAll storedAll view
+one-name words store h k =
+    rw (eq-eqb (length store) storeBytes k, header.examples .one)
+    (record { done = refl; rest = refl; slot = rw (marked-filled words 5 5 h (omega arith), stored-same store 5 (97 ∷ []) k (omega arith) (omega arith)) })
+
+eof : headerIn (131 ∷ 68 ∷ 1 ∷ 9 ∷ 5 ∷ 1 ∷ 97 ∷ []) storeBytes .number ≡ number.Eof
+unfolding headerIn
+eof = rw (header.examples .long)
 
 pub starred : Starred
 unfolding readAll wholeFrom judged readAt answer behind bitString bitsThen bitsByte
@@ -74,5 +101,7 @@ starred = record {
   least = heads.least;
   no-bits = λ room h. rw (le-ltb room 5 h) refl;
   seven-bits = λ room. refl;
+  header = one-name;
+  long-header = eof;
   found = λ r l. let w = last-wins l in (w .0, w .1);
 }

@@ -2,16 +2,16 @@
 -- Assumes nothing.
 use Prim.Native.Nat.{ℕ, suc, _+_, _-_, _*_, _≤_, _<_}
 use native.Mathlib.Omega.{arith}
-use mathlib.Core.Path.{_≡_, refl, ap, _∙_}
+use mathlib.Core.Path.{_≡_, refl, ap, sym, _∙_}
 use mathlib.Core.List.{List, [], _∷_, _++_, append-nil}
 use lib.ListN.{length, getD, length-append}
 use lib.Seq.{length-sets}
 use Rattle.layouts.specs.declared.Shape.{Shape}
 use Rattle.layouts.specs.Tree.{Tree, Forest, node, none, more, Stands, bytes, bytesAll, count, size, sizes}
 use Rattle.layouts.specs.Layout.{Laid, AllLaid, no-more, one-more}
-use Rattle.layouts.specs.Shape.{shapeAt, shapeOf}
+use Rattle.layouts.specs.Shape.{ends, shapeAt, shapeOf, shortAt}
 use Rattle.layouts.proofs.Stands.{left, right, byte, behind}
-use Rattle.layouts.proofs.Shapes.{shape-is, kids-laid, one-leaf}
+use Rattle.layouts.proofs.Shapes.{shape-is, kids-laid, one-leaf, short-is}
 use Rattle.tape.specs.Cells.{cellWords, words, wordsAll}
 use Rattle.tape.specs.Fill.{opened, closed, lay, Good, Some, Written, Kids}
 use Rattle.tape.proofs.Blocks.{words-length}
@@ -103,6 +103,10 @@ module _ {b : List ℕ} {from n up : ℕ} {old : List ℕ} where
               record { behind = omega arith; same = rw (s, a, d) }
 
 -- the two ways of a child
+
+-- the short way tells the shape
+pub short-shape : (b : List ℕ) (pos : ℕ) {r : ℕ} → r ≡ shortAt b pos → ¬ (r ≡ 0) → ends r ≡ shapeAt b pos
+short-shape b pos {r} e h = ap ends e ∙ sym (short-is b pos (λ z. h (e ∙ z)))
 
 -- no children, no bytes behind them
 bare : {tag : ℕ} {front back : List ℕ} → Laid (node tag front none back) → back ≡ []

@@ -52,3 +52,9 @@ pub end-read : (tape : List ℕ) (c e n : ℕ) → c * cellWords + 5 ≤ length 
 end-read tape c e n h =
     getD-set-other (set tape (c * cellWords + 2) e) (c * cellWords + 4) (c * cellWords + 2) n 0 (λ k. omega arith)
     ∙ getD-set-same tape (c * cellWords + 2) e 0 (omega arith)
+
+-- a cell whose words are stored in their order
+pub in-order : (tape : List ℕ) (c tag p e up n : ℕ) →
+    set (set (set (set (set tape (c * cellWords) tag) (c * cellWords + 1) p) (c * cellWords + 2) e) (c * cellWords + 3) up) (c * cellWords + 4) n ≡ closed (opened tape c tag p up) c e n
+in-order tape c tag p e up n =
+    ap (λ (z : List ℕ). set z (c * cellWords + 4) n) (set-comm (set (set tape (c * cellWords) tag) (c * cellWords + 1) p) (c * cellWords + 2) (c * cellWords + 3) e up (λ h. omega arith))

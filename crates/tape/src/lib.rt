@@ -81,7 +81,8 @@ fn fill(b: &[u8], tape: &mut [u32])
 }
 
 // The cells of n children from `from` on, behind which `more` bytes stand; then what was left open of the cell `up`, whose children they
-// are. Answers the cell behind the last. A child without children is written here; the end of any other is read off its cell.
+// are. Answers the cell behind the last. The commonest children have no children of their own and are written here; the end of any other is
+// read off its cell.
 fn kids(b: &[u8], from: usize, n: usize, more: usize, up: usize, tape: &mut [u32]) -> usize
     requires { ⌜ Some (now b) from n more (up + 1) (length (now tape)) ⌝ }
     ensures { λ r. ⌜ Kids (now (b .entry)) from n more up (now (tape .entry)) r (now (tape .exit)) ⌝ }
@@ -90,17 +91,18 @@ fn kids(b: &[u8], from: usize, n: usize, more: usize, up: usize, tape: &mut [u32
     let mut cell = up + 1;
     let mut i = 0;
     while i < n {
-        begin(tape, cell, b[pos], pos, up);
-        let s = layouts::shape_at(b, pos);
-        let first = s.from;
-        let m = s.kids;
-        if m == 0 {
-            finish(tape, cell, first, 1);
-            pos = first;
+        let end = layouts::short_at(b, pos);
+        if end != 0 {
+            leaf(tape, cell, b[pos], pos, end, up);
+            pos = end;
             cell += 1;
             i += 1;
             continue;
         }
+        begin(tape, cell, b[pos], pos, up);
+        let s = layouts::shape_at(b, pos);
+        let first = s.from;
+        let m = s.kids;
         let next = kids(b, first, m, s.more, cell, tape);
         pos = tape[cell * CELL + 2] as usize;
         cell = next;
@@ -108,6 +110,20 @@ fn kids(b: &[u8], from: usize, n: usize, more: usize, up: usize, tape: &mut [u32
     }
     finish(tape, up, pos + more, cell - up);
     cell
+}
+
+// The cell of a term without children, its words in their order: so they take the least time.
+fn leaf(tape: &mut [u32], cell: usize, tag: u8, start: usize, end: usize, up: usize)
+    requires { ⌜ (cell * 5 + 5 ≤ length (now tape)) × ((start ≤ 16777216) × ((end ≤ 16777216) × (up ≤ 16777216))) ⌝ }
+    ensures { λ _. ⌜ now (tape .exit) ≡ closed (opened (now (tape .entry)) cell tag start up) cell end 1 ⌝ }
+    ensures { λ _. ⌜ length (now (tape .exit)) ≡ length (now (tape .entry)) ⌝ }
+{
+    let i = cell * CELL;
+    tape[i] = tag as u32;
+    tape[i + 1] = start as u32;
+    tape[i + 2] = end as u32;
+    tape[i + 3] = up as u32;
+    tape[i + 4] = 1;
 }
 
 // What is known of a cell before its children: its tag, its start and its parent's cell.

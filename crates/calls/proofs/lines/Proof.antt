@@ -7,10 +7,10 @@ use Rattle.calls.proofs.lines.Statement.{statement}
 use Rattle.calls.proofs.lines.Tie as tie
 
 abbrev Inv-loop : tie.InvT-loop
-Inv-loop text end bytes₀ out₀ at₀ from₀ stop₀ bytes out at from stop = (from ≤ stop) × ((stop ≤ end) × ((at ≤ length out) × ((length out ≡ length out₀) × (length bytes ≡ length bytes₀))))
+Inv-loop text end bytes₀ store₀ run₀ out₀ names₀ at₀ from₀ stop₀ t14 bytes store run out names at from stop = (from ≤ stop) × ((stop ≤ end) × ((at ≤ length out) × ((length bytes ≡ length bytes₀) × ((length store ≡ length store₀) × ((length run ≡ length run₀) × (length out ≡ length out₀))))))
 
 abbrev μ-loop : tie.MeasureT-loop
-μ-loop text end bytes₀ out₀ at₀ from₀ stop₀ bytes out at from stop = end - stop
+μ-loop text end bytes₀ store₀ run₀ out₀ names₀ at₀ from₀ stop₀ t14 bytes store run out names at from stop = end - stop
 
 pub lines-spec : {M : Type 1} → statement M
 lines-spec =
@@ -23,12 +23,16 @@ lines-spec =
     (λ c. omega arith)
     (λ c. omega arith)
     (λ c. omega arith)
+    (λ c. omega arith)
     (λ c κs. omega arith)
+    (λ c. omega arith)
+    (λ c κs. omega arith)
+    (λ c κs. omega arith)
+    (λ c. omega arith)
     (λ c. omega arith)
     (λ c κs. omega arith)
     (λ c. omega arith)
     (λ c. omega arith)
-    (λ c κs. omega arith)
     (λ c. omega arith)
     (λ c. omega arith)
     (λ c. omega arith))

@@ -1,27 +1,40 @@
--- `calls::serve` is safe: what is left of a last line is a part of the buffer.
+-- `calls::serve` is safe and ends: the buffers keep their lengths, and what is kept leaves room to read on. The measure is the turns left.
+use mathlib.Core.Path.{_≡_}
+use Prim.Native.Nat.{_≤_}
 use native.Mathlib.Omega.{arith}
-use borrow.Author.Needs.{needs}
-use lib.ListN.{length-take}
+use lib.ListN.{length}
 use Rattle.calls.proofs.serve.Statement.{statement}
 use Rattle.calls.proofs.serve.Tie as tie
 
-slice-aggregate-request : tie.Need-slice-aggregate-request
-slice-aggregate-request c = simp length-take (omega arith)
+abbrev Inv-loop : tie.InvT-loop
+Inv-loop text₀ bytes₀ store₀ run₀ out₀ names₀ kept₀ turns₀ text bytes store run out names kept turns = (kept ≤ 131143) × ((length text ≡ length text₀) × ((length bytes ≡ length bytes₀) × ((length store ≡ length store₀) × ((length run ≡ length run₀) × (length out ≡ length out₀)))))
+
+abbrev μ-loop : tie.MeasureT-loop
+μ-loop text₀ bytes₀ store₀ run₀ out₀ names₀ kept₀ turns₀ text bytes store run out names kept turns = turns
 
 pub serve-spec : {M : Type 1} → statement M
 serve-spec =
     tie.close
     (tie.spec
-    (λ c κs. search needs)
-    (λ c. search needs)
-    slice-aggregate-request
-    (λ c κs. search needs)
-    (λ c κs. search needs)
-    (λ c. search needs)
-    (λ c. search needs)
-    (λ c. search needs)
-    (λ c. search needs)
-    (λ c. search needs)
-    (λ c. search needs)
-    (λ c. search needs)
-    (λ c. search needs))
+    Inv-loop
+    μ-loop
+    (λ c κs. omega arith)
+    (λ c. omega arith)
+    (λ c κs. omega arith)
+    (λ c. omega arith)
+    (λ c. omega arith)
+    (λ c. omega arith)
+    (λ c. omega arith)
+    (λ c. omega arith)
+    (λ c. omega arith)
+    (λ c κs. omega arith)
+    (λ c κs. omega arith)
+    (λ c. omega arith)
+    (λ c. omega arith)
+    (λ c. omega arith)
+    (λ c. omega arith)
+    (λ c. omega arith)
+    (λ c. omega arith)
+    (λ c. omega arith)
+    (λ c. omega arith)
+    (λ c. omega arith))

@@ -7,10 +7,10 @@ use Rattle.calls.proofs.answers.segments.Statement.{statement}
 use Rattle.calls.proofs.answers.segments.Tie as tie
 
 abbrev Inv-loop : tie.InvT-loop
-Inv-loop len out₀ at path put₀ i₀ out put i = (i ≤ len) × ((put ≤ length out) × (length out ≡ length out₀))
+Inv-loop len out₀ at path n put₀ i₀ out put i = (i ≤ n) × ((put ≤ length out) × (length out ≡ length out₀))
 
 abbrev μ-loop : tie.MeasureT-loop
-μ-loop len out₀ at path put₀ i₀ out put i = len - i
+μ-loop len out₀ at path n put₀ i₀ out put i = n - i
 
 pub segments-spec : {M : Type 1} → statement M
 segments-spec =
@@ -18,6 +18,9 @@ segments-spec =
     (tie.spec
     Inv-loop
     μ-loop
+    (λ c κs. omega arith)
+    (λ c. omega arith)
+    (λ c κs. omega arith)
     (λ c. omega arith)
     (λ c κs. omega arith)
     (λ c. omega arith)

@@ -1,0 +1,12 @@
+pub mod Below
+pub mod Words
+pub mod Counts
+pub mod Marks
+pub mod Stores
+pub mod Slots
+pub mod Views
+pub mod Storing
+pub mod Reading
+pub mod Leaving
+pub mod Maps
+pub mod Examples

@@ -1,0 +1,13 @@
+-- `cache::header::is_long` meets its contract. Assumes nothing.
+use borrow.Author.Needs.{needs}
+use mathlib.Core.Path.{refl}
+use Rattle.cache.specs.Header.{longBit}
+use Rattle.cache.proofs.header.is_long.Statement.{statement}
+use Rattle.cache.proofs.header.is_long.Tie as tie
+
+returns : tie.Need-returns
+unfolding longBit
+returns c = refl
+
+pub is-long-spec : {M : Type 1} → statement M
+is-long-spec = tie.close (tie.spec (λ c. search needs) (λ c. search needs) returns)

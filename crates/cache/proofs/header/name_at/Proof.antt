@@ -1,0 +1,50 @@
+-- `cache::header::name_at` meets its contract, for a length of two bytes and of one. Assumes nothing.
+use native.Mathlib.Omega.{arith}
+use mathlib.Core.Path.{sym, _∙_}
+use borrow.Author.Needs.{needs}
+use Rattle.fields.proofs.Laws.{is-whole}
+use Rattle.cache.specs.Header.{nameAt}
+use Rattle.cache.proofs.Reading.{sized-is, sized-eof}
+use Rattle.cache.proofs.header.name_at.Statement.{statement}
+use Rattle.cache.proofs.header.name_at.Tie as tie
+
+add-name : tie.Need-add-name
+add-name c = omega (arith, is-whole 2 _ _ (sym (c .before .before .before .be-u16 .ensures) ∙ c .before .f .given .1) .0)
+
+add-name-2 : tie.Need-add-name-2
+add-name-2 c = omega (arith, is-whole 1 _ _ (sym (c .before .before .before .be-u8 .ensures) ∙ c .before .f2 .given .1) .0)
+
+returns : tie.Need-returns
+unfolding nameAt
+returns c = rw (c .before .before .before .before .before .if1 .taken) (c .name .ensures ∙ sym (sized-is _ 2 _ _ _ (sym (c .before .before .before .before .be-u16 .ensures) ∙ c .before .before .f .given .1)))
+
+returns-2 : tie.Need-returns-2
+unfolding nameAt
+returns-2 c = rw (c .before .before .before .if1 .taken) (sym (sized-eof _ 2 _ _ _ (sym (c .before .before .be-u16 .ensures) ∙ c .enum-told .given .1)))
+
+returns-3 : tie.Need-returns-3
+unfolding nameAt
+returns-3 c = rw (c .before .before .before .before .before .if1 .left) (c .name2 .ensures ∙ sym (sized-is _ 1 _ _ _ (sym (c .before .before .before .before .be-u8 .ensures) ∙ c .before .before .f2 .given .1)))
+
+returns-4 : tie.Need-returns-4
+unfolding nameAt
+returns-4 c = rw (c .before .before .before .if1 .left) (sym (sized-eof _ 1 _ _ _ (sym (c .before .before .be-u8 .ensures) ∙ c .enum-told2 .given .1)))
+
+pub name-at-spec : {M : Type 1} → statement M
+name-at-spec =
+    tie.close
+    (tie.spec
+    (λ c κs. search needs)
+    (λ c. search needs)
+    add-name
+    (λ c κs. search needs)
+    (λ c. search needs)
+    (λ c κs. search needs)
+    (λ c. search needs)
+    add-name-2
+    (λ c κs. search needs)
+    (λ c. search needs)
+    returns
+    returns-2
+    returns-3
+    returns-4)

@@ -1,0 +1,203 @@
+// The atom header's reader: its new names go into a cache, and what follows the header is left to others.
+//
+// What a header says is defined in specs/Header.antt, and what a name does to a cache in specs/Names.antt. It is changed from
+// parse_dist_header_with_cache in decoder.rs: see lib.rt.
+use crate::Cache;
+use crate::Got;
+use crate::Headed;
+use crate::SLOT_BYTES;
+use crate::STORE_BYTES;
+use fields::Field;
+ghost use mathlib.Core.Path.{_≡_};
+ghost use mathlib.Core.Bool.{cond};
+ghost use Prim.Native.Nat.{_+_, _/_, _<_, _≤_};
+ghost use lib.ListN.{length};
+ghost use Rattle.cache.specs.Names.{marked, stored, storeBytes};
+ghost use Rattle.cache.specs.Header as said;
+
+// Where the flags begin: behind 131, 68 and the count of references.
+const FLAGS: usize = 3;
+
+// Reads an atom header, 131, 68, the count of references, flags and references, and answers where what follows it begins. Each new name
+// is stored when it is complete; a later fault keeps it. Refused: Store, Long, then Eof, Tag, Kind with that byte, and for a name Eof,
+// Text, Name.
+pub fn read(b: &[u8], c: Cache, store: &mut [u8]) -> Headed
+    ensures { λ r. ⌜ r ≡ said.answered (said.headerIn (now (b .entry)) (length (now (store .entry)))) c ⌝ }
+    ensures { λ _. ⌜ now (store .exit) ≡ said.storedAll (said.headerIn (now (b .entry)) (length (now (store .entry))) .steps) (now (store .entry)) ⌝ }
+{
+    if store.len() != STORE_BYTES {
+        return refusal(rows::STORE, 0, c);
+    }
+    if 16777216 < b.len() {
+        return refusal(rows::LONG, 0, c);
+    }
+    if b.len() < 1 {
+        return refusal(rows::EOF, 0, c);
+    }
+    if b[0] != 131 {
+        return refusal(rows::TAG, 0, c);
+    }
+    if b.len() < 2 {
+        return refusal(rows::EOF, 0, c);
+    }
+    if b[1] != 68 {
+        return refusal(rows::KIND, b[1] as u64, c);
+    }
+    if b.len() < 3 {
+        return refusal(rows::EOF, 0, c);
+    }
+    flagged(b, b[2] as usize, c, store)
+}
+
+// n references, with flags before them where there are any.
+fn flagged(b: &[u8], n: usize, c: Cache, store: &mut [u8]) -> Headed
+    requires { ⌜ (n < 256) × (length (now store) ≡ storeBytes) ⌝ }
+    ensures { λ r. ⌜ r ≡ said.answered (said.flagged (now (b .entry)) n 3) c ⌝ }
+    ensures { λ _. ⌜ now (store .exit) ≡ said.storedAll (said.flagged (now (b .entry)) n 3 .steps) (now (store .entry)) ⌝ }
+{
+    if n == 0 {
+        return answer(FLAGS, c);
+    }
+    if !fields::has(b, FLAGS, n / 2 + 1) {
+        return refusal(rows::EOF, 0, c);
+    }
+    references(b, n, is_long(b, n), c, store)
+}
+
+// The references behind the flags; a length has two bytes where `long`, else one.
+fn references(b: &[u8], n: usize, long: bool, c: Cache, store: &mut [u8]) -> Headed
+    requires { ⌜ (n < 256) × ((3 + (n / 2 + 1) ≤ length (now b)) × (length (now store) ≡ storeBytes)) ⌝ }
+    ensures { λ r. ⌜ r ≡ said.answered (said.references (now (b .entry)) 3 (cond long 2 1) 0 n (3 + (n / 2 + 1))) c ⌝ }
+    ensures { λ _. ⌜ now (store .exit) ≡ said.storedAll (said.references (now (b .entry)) 3 (cond long 2 1) 0 n (3 + (n / 2 + 1)) .steps) (now (store .entry)) ⌝ }
+{
+    let mut cache = c;
+    let mut p = FLAGS + (n / 2 + 1);
+    let mut i = 0;
+    while i < n {
+        if b.len() <= p {
+            return refusal(rows::EOF, 0, cache);
+        }
+        let slot = b[p] as usize;
+        if !is_new(b, i) {
+            p += 1;
+            i += 1;
+            continue;
+        }
+        let f = name_at(b, long, p + 1);
+        match f {
+            Got::Name(from, len) => {
+                let end = from + len;
+                put(&b[from..end], slot, store);
+                mark(&mut cache.filled, slot);
+                p = end;
+                i += 1;
+            }
+            Got::No(number) => return refusal(number, 0, cache),
+        }
+    }
+    answer(p, cache)
+}
+
+// Whether a length has two bytes: the bit worth 1 of the last flag byte.
+fn is_long(b: &[u8], n: usize) -> bool
+    requires { ⌜ 3 + n / 2 < length (now b) ⌝ }
+    ensures { λ r. ⌜ r ≡ said.longBit (now (b .entry)) 3 n ⌝ }
+{
+    b[FLAGS + n / 2] % 2 == 1
+}
+
+// Whether reference i is new: the bit worth 8 of half byte i.
+fn is_new(b: &[u8], i: usize) -> bool
+    requires { ⌜ 3 + i / 2 < length (now b) ⌝ }
+    ensures { λ r. ⌜ r ≡ said.isNew (now (b .entry)) 3 i ⌝ }
+{
+    half(b[FLAGS + i / 2], i) / 8 % 2 == 1
+}
+
+// Half byte i of the flags, within its byte: the low half first.
+fn half(byte: u8, i: usize) -> u8
+    ensures { λ r. ⌜ r ≡ said.halfOf byte i ⌝ }
+{
+    if i % 2 == 0 { byte % 16 } else { byte / 16 }
+}
+
+// A name behind its length: where it begins in the input and how long it is. Refused: Eof, Text, Name.
+fn name_at(b: &[u8], long: bool, p: usize) -> Got
+    ensures { λ r. ⌜ r ≡ said.nameAt (now (b .entry)) (cond long 2 1) p ⌝ }
+{
+    if long {
+        let f = fields::be_u16(b, p);
+        match f {
+            Field::Is(n) => name(b, n as usize, p + 2),
+            Field::Eof => Got::No(rows::EOF),
+        }
+    } else {
+        let f = fields::be_u8(b, p);
+        match f {
+            Field::Is(n) => name(b, n as usize, p + 1),
+            Field::Eof => Got::No(rows::EOF),
+        }
+    }
+}
+
+fn name(b: &[u8], n: usize, p: usize) -> Got
+    ensures { λ r. ⌜ r ≡ said.named (now (b .entry)) n p ⌝ }
+{
+    if !fields::has(b, p, n) {
+        return Got::No(rows::EOF);
+    }
+    let end = p + n;
+    if utf8::good(&b[p..end]) != n {
+        return Got::No(rows::TEXT);
+    }
+    if 255 < n {
+        return Got::No(rows::NAME);
+    }
+    Got::Name(p, n)
+}
+
+// Stores a name in its slot: its length and its bytes.
+fn put(name: &[u8], slot: usize, store: &mut [u8])
+    requires { ⌜ (slot < 256) × ((length (now name) < 256) × (length (now store) ≡ storeBytes)) ⌝ }
+    ensures { λ _. ⌜ now (store .exit) ≡ stored (now (store .entry)) slot (now (name .entry)) ⌝ }
+{
+    let at = slot * SLOT_BYTES;
+    store[at] = name.len() as u8;
+    let mut i = 0;
+    while i < name.len() {
+        store[at + 1 + i] = name[i];
+        i += 1;
+    }
+}
+
+// Notes that a slot is filled.
+fn mark(filled: &mut [u64; 4], slot: usize)
+    requires { ⌜ slot < 256 ⌝ }
+    ensures { λ _. ⌜ now (filled .exit) ≡ marked (now (filled .entry)) slot ⌝ }
+{
+    let word = slot / 64;
+    filled[word] = filled[word] | (1u64 << (slot % 64));
+}
+
+// What a header answers that is read to its end, and one that is refused.
+fn answer(rest: usize, c: Cache) -> Headed
+    ensures { λ r. ⌜ r ≡ record { number = 0; rest = rest; extra = 0; cache = c } ⌝ }
+{
+    Headed {
+        number: 0,
+        rest,
+        extra: 0,
+        cache: c,
+    }
+}
+
+fn refusal(number: u64, extra: u64, c: Cache) -> Headed
+    ensures { λ r. ⌜ r ≡ record { number = number; rest = 0; extra = extra; cache = c } ⌝ }
+{
+    Headed {
+        number,
+        rest: 0,
+        extra,
+        cache: c,
+    }
+}

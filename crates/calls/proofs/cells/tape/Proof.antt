@@ -1,0 +1,24 @@
+-- `calls::cells::tape` meets its contract: the words asked for are a part of the run.
+use native.Mathlib.Omega.{arith}
+use borrow.Author.Needs.{needs}
+use lib.ListN.{length-take}
+use Rattle.calls.proofs.cells.tape.Statement.{statement}
+use Rattle.calls.proofs.cells.tape.Tie as tie
+
+slice-aggregate-filled : tie.Need-slice-aggregate-filled
+slice-aggregate-filled c = simp length-take (omega arith)
+
+pub tape-spec : {M : Type 1} → statement M
+tape-spec =
+    tie.close
+    (tie.spec
+    (λ c. search needs)
+    (λ c κs. search needs)
+    (λ c. search needs)
+    (λ c. search needs)
+    (λ c. search needs)
+    slice-aggregate-filled
+    (λ c κs. search needs)
+    (λ c. search needs)
+    (λ c. search needs)
+    (λ c. search needs))
