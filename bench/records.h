@@ -1,5 +1,6 @@
-// Records as a battery bench writes them: a pack's map with its state, limits, cells and the steps it went through, of small integers,
-// atoms, floats, binaries, tuples, lists and maps, six deep. The numbers come from a fixed seed, so that every run reads the same bytes.
+// What the benchmark reads. First records as a battery bench writes them: a pack's map with its state, limits, cells and the steps it went
+// through, of small integers, atoms, floats, binaries, tuples, lists and maps, six deep. Then inputs of one kind of term each. The numbers
+// come from a fixed seed, so that every run reads the same bytes.
 #include <stdint.h>
 #include <string.h>
 
@@ -30,10 +31,13 @@ static void real(struct out *o, double x) {
     byte(o, 70), word(o, (uint32_t)(bits >> 32)), word(o, (uint32_t)bits);
 }
 
-static void atom(struct out *o, const char *name) {
-    byte(o, 119), byte(o, (unsigned)strlen(name));
+// A length of one byte, and so many bytes.
+static void atom_name(struct out *o, const char *name) {
+    byte(o, (unsigned)strlen(name));
     while (*name) byte(o, (uint8_t)*name++);
 }
+
+static void atom(struct out *o, const char *name) { byte(o, 119), atom_name(o, name); }
 
 static void binary(struct out *o, uint32_t n) {
     byte(o, 109), word(o, n);
@@ -91,6 +95,12 @@ static void pack(struct out *o) {
 // The longest that a pack can be.
 #define PACK 1200
 
+// The number of elements of the list that a record is.
+static void count(uint8_t *b, uint32_t n) {
+    struct out o = {b, 2, 0};
+    word(&o, n);
+}
+
 // A record of one pack, or in more than twice its room a list of as many as are sure to fit in `most` bytes. Answers its length.
 static size_t record(uint8_t *b, size_t most) {
     struct out o = {b, 0, 1};
@@ -103,7 +113,117 @@ static size_t record(uint8_t *b, size_t most) {
     uint32_t n = 0;
     while (o.n + PACK < most) pack(&o), n++;
     nil(&o);
-    struct out count = {b, 2, 0};
-    word(&count, n);
+    count(b, n);
+    return o.n;
+}
+
+// A list of as many of `one` as are sure to fit, none of them longer than `longest`.
+static size_t list_of(uint8_t *b, size_t most, size_t longest, void (*one)(struct out *)) {
+    struct out o = {b, 0, 1};
+    byte(&o, 131), list(&o, 0);
+    uint32_t n = 0;
+    while (o.n + longest < most) one(&o), n++;
+    nil(&o);
+    count(b, n);
+    return o.n;
+}
+
+static void an_integer(struct out *o) { small(o, draw(o, 256)); }
+
+static void a_binary(struct out *o) { binary(o, 3000 + draw(o, 500)); }
+
+static void a_long_atom(struct out *o) {
+    byte(o, 119), byte(o, 255);
+    for (int i = 0; i < 255; i++) byte(o, 'a' + draw(o, 26));
+}
+
+static const char *const foreign[] = {"größe", "spänning", "напруга", "зарядка", "電圧", "温度センサー", "tension_élevée", "τάση"};
+
+static void a_foreign_atom(struct out *o) { atom(o, foreign[draw(o, 8)]); }
+
+static size_t integers(uint8_t *b, size_t most) { return list_of(b, most, 3, an_integer); }
+
+static size_t binaries(uint8_t *b, size_t most) { return list_of(b, most, 3506, a_binary); }
+
+static size_t long_atoms(uint8_t *b, size_t most) { return list_of(b, most, 258, a_long_atom); }
+
+static size_t foreign_atoms(uint8_t *b, size_t most) { return list_of(b, most, 24, a_foreign_atom); }
+
+// A map with integers as its keys, from 0 on.
+static size_t numbered(uint8_t *b, size_t entries) {
+    struct out o = {b, 0, 1};
+    byte(&o, 131), map(&o, (uint32_t)entries);
+    for (uint32_t i = 0; i < entries; i++) i < 256 ? small(&o, i) : integer(&o, i), small(&o, draw(&o, 256));
+    return o.n;
+}
+
+// An atom header that brings `names` new names, and refers to each once more.
+static size_t header(uint8_t *b, size_t names) {
+    struct out o = {b, 0, 1};
+    byte(&o, 131), byte(&o, 68), byte(&o, (unsigned)(2 * names));
+    for (size_t i = 0; i <= names; i++) byte(&o, i < names / 2 ? 0x88 : 0);
+    for (size_t i = 0; i < names; i++) byte(&o, (unsigned)(7 * i % 256)), atom_name(&o, states[draw(&o, 8)]);
+    for (size_t i = 0; i < names; i++) byte(&o, (unsigned)(7 * i % 256));
+    return o.n;
+}
+
+// Texts, of letters and of the foreign names.
+static size_t letters(uint8_t *b, size_t most) {
+    struct out o = {b, 0, 1};
+    while (o.n < most) byte(&o, 'a' + draw(&o, 26));
+    return o.n;
+}
+
+static size_t foreign_text(uint8_t *b, size_t most) {
+    struct out o = {b, 0, 1};
+    while (o.n + 24 < most) {
+        for (const char *name = foreign[draw(&o, 8)]; *name; name++) byte(&o, (uint8_t)*name);
+        byte(&o, ' ');
+    }
+    return o.n;
+}
+
+// Tuples in tuples, and nil in the last.
+static size_t nested(uint8_t *b, size_t tuples) {
+    struct out o = {b, 0, 1};
+    byte(&o, 131);
+    while (tuples--) tuple(&o, 1);
+    nil(&o);
+    return o.n;
+}
+
+// {5, a}
+static size_t message(uint8_t *b, size_t unused) {
+    (void)unused;
+    struct out o = {b, 0, 1};
+    byte(&o, 131), tuple(&o, 2), small(&o, 5), atom(&o, "a");
+    return o.n;
+}
+
+// A term of every tag: read to see that two readers answer alike, and not timed.
+static size_t every_tag(uint8_t *b, size_t unused) {
+    (void)unused;
+    struct out o = {b, 0, 1};
+    byte(&o, 131), byte(&o, 105), word(&o, 16);
+    small(&o, 255), integer(&o, 0xFFFFFFFF), real(&o, -0.5);
+    byte(&o, 99);
+    const char *text = "-1.50000000000000000000e+01";
+    for (size_t i = 0; i < 31; i++) byte(&o, i < strlen(text) ? (uint8_t)text[i] : 0);
+    byte(&o, 100), byte(&o, 0), atom_name(&o, "ok");
+    byte(&o, 118), byte(&o, 0), atom_name(&o, "grün");
+    byte(&o, 107), byte(&o, 0), atom_name(&o, "abc");
+    binary(&o, 5);
+    byte(&o, 77), word(&o, 2), byte(&o, 3), byte(&o, 255), byte(&o, 224);
+    byte(&o, 110), byte(&o, 9), byte(&o, 1), word(&o, 1), word(&o, 2), byte(&o, 3);
+    byte(&o, 111), word(&o, 4), byte(&o, 0), word(&o, 5);
+    list(&o, 1), small(&o, 1), small(&o, 2);
+    byte(&o, 90), byte(&o, 0), byte(&o, 2), atom(&o, "n@h"), word(&o, 3), word(&o, 1), word(&o, 2);
+    byte(&o, 120), atom(&o, "n@h"), word(&o, 0), word(&o, 7), word(&o, 3);
+    byte(&o, 113), atom(&o, "lists"), atom(&o, "map"), small(&o, 2);
+    byte(&o, 112), word(&o, 0), byte(&o, 1);
+    for (int i = 0; i < 16; i++) byte(&o, 0);
+    word(&o, 1), word(&o, 2), atom(&o, "m"), small(&o, 1), integer(&o, 2);
+    byte(&o, 88), atom(&o, "n@h"), word(&o, 1), word(&o, 0), word(&o, 3);
+    map(&o, 1), atom(&o, "k"), nil(&o), tuple(&o, 1), small(&o, 9);
     return o.n;
 }

@@ -13,6 +13,7 @@ pub fn requests() -> Vec<String> {
         counts(),
         cuts(),
         required_children(),
+        places(),
         text_floats(),
         names(),
         lists(),
@@ -205,6 +206,133 @@ fn required_children() -> Vec<String> {
         &[nil()],
     ))));
     requests
+}
+
+/// Every fault of every row, in every place where a term can stand. Nothing
+/// comes after the faulty term, which may be cut short.
+fn places() -> Vec<String> {
+    let head = function(&plain_function(1), &required(), &[]);
+    let [module, index, uniq, _] = required().map(|child| child.len());
+    let module_end = 30 + module;
+    let before: [&[u8]; 18] = [
+        &[],
+        &[104, 2, 106],
+        &[105, 0, 0, 0, 2, 106],
+        &[108, 0, 0, 0, 2, 106],
+        &[108, 0, 0, 0, 1, 106],
+        &[116, 0, 0, 0, 2, 106, 106],
+        &[116, 0, 0, 0, 1, 106],
+        &[88],
+        &[90, 0, 1],
+        &[120],
+        &[113],
+        &[113, 119, 1, 109],
+        &[113, 119, 1, 109, 119, 1, 102],
+        &head[..30],
+        &head[..module_end],
+        &head[..module_end + index],
+        &head[..module_end + index + uniq],
+        &head,
+    ];
+    let faults = faults();
+    let mut requests = Vec::new();
+    for before in before {
+        for fault in &faults {
+            requests.push(term(&[&[131], before, fault].concat()));
+        }
+    }
+    // And a whole term of every tag, in every place but the required ones.
+    let all = samples();
+    let keyed: Vec<Bytes> = (0..)
+        .map(small)
+        .zip(all.clone())
+        .flat_map(<[_; 2]>::from)
+        .collect();
+    let valued: Vec<Bytes> = all.iter().flat_map(|key| [key.clone(), nil()]).collect();
+    let count = all.len() as u32;
+    let holders = [
+        tuple(&all),
+        large_tuple(&all),
+        list(&all, nil()),
+        map(&keyed),
+        map(&valued),
+        function(&plain_function(count), &required(), &all),
+    ];
+    requests.extend(holders.iter().map(|holder| term(&whole(holder))));
+    requests
+}
+
+/// A term that is refused in each field of each row, in each way. Of a field
+/// that is missing the last byte alone is.
+fn faults() -> Vec<Bytes> {
+    // Where the fields of each sample end, those without fields left out.
+    let fields: [(u8, &[usize]); 20] = [
+        (97, &[2]),
+        (98, &[5]),
+        (99, &[32]),
+        (70, &[9]),
+        (100, &[3, 6]),
+        (118, &[3, 10]),
+        (119, &[2, 4]),
+        (104, &[2]),
+        (105, &[5]),
+        (107, &[3, 5]),
+        (108, &[5]),
+        (109, &[5, 8]),
+        (77, &[5, 6, 8]),
+        (110, &[2, 3, 12]),
+        (111, &[5, 6, 11]),
+        (116, &[5]),
+        (88, &[10, 14, 18]),
+        (90, &[3, 12, 20]),
+        (120, &[14, 18]),
+        (112, &[5, 6, 22, 26, 30]),
+    ];
+    let mut faults = vec![vec![], vec![80]];
+    for (tag, ends) in fields {
+        let sample = samples().into_iter().find(|sample| sample[0] == tag);
+        let sample = sample.expect("a sample of every tag");
+        faults.extend(ends.iter().map(|end| sample[..end - 1].to_vec()));
+    }
+    faults.extend([&b"\xff"[..], b"x"].map(text_float));
+    faults.extend([100, 118, 119].map(|tag| named(tag, b"\xff")));
+    for (tag, over) in [
+        (105, 10_000_001u32),
+        (108, 10_000_001),
+        (116, 1_000_001),
+        (109, 100_000_001),
+        (77, 100_000_001),
+    ] {
+        faults.push([&[tag], &over.to_be_bytes()[..]].concat());
+    }
+    faults.extend([bit_string(0, b"a"), bit_string(9, b"a"), bit_string(7, b"")]);
+    faults.push(pid(&nil(), [1, 2, 3]));
+    faults.push(reference(&nil(), 3, &[1]));
+    faults.push(port(&nil(), 7, 3));
+    for (place, child) in [
+        (0, nil()),
+        (1, nil()),
+        (2, nil()),
+        (2, integer(-1)),
+        (2, integer(256)),
+    ] {
+        let mut required = [atom("m"), atom("f"), small(2)];
+        required[place] = child;
+        faults.push(export(&required));
+    }
+    for (place, child) in [
+        (0, nil()),
+        (1, nil()),
+        (1, integer(-1)),
+        (2, nil()),
+        (2, integer(-1)),
+        (3, nil()),
+    ] {
+        let mut required = required();
+        required[place] = child;
+        faults.push(function(&plain_function(0), &required, &[]));
+    }
+    faults
 }
 
 const TEXTS: [&[u8]; 66] = [
@@ -419,6 +547,21 @@ fn nesting() -> Vec<String> {
             requests.push(term(&whole(&head.repeat(levels))));
         }
     }
+    // Segments of every kind in one path, beside ones that are removed.
+    let each: [fn(Bytes) -> Bytes; 7] = [
+        |child| tuple(&[tuple(&[nil()]), child]),
+        |child| large_tuple(&[list(&[nil()], nil()), child]),
+        |child| list(&[map(&[nil(), nil()]), child], nil()),
+        |child| list(&[nil()], child),
+        |child| map(&[nil(), nil(), child, nil()]),
+        |child| map(&[nil(), nil(), small(1), child]),
+        |child| function(&plain_function(2), &required(), &[nil(), child]),
+    ];
+    for turn in 0..each.len() {
+        let order = each.iter().cycle().skip(turn).take(2 * each.len());
+        let nested = order.fold(vec![80], |child, around| around(child));
+        requests.push(term(&whole(&nested)));
+    }
     let value = [116, 0, 0, 0, 1, 106];
     for levels in [1, 2, 63] {
         requests.push(term(&whole(&value.repeat(levels))));
@@ -435,17 +578,31 @@ fn maps() -> Vec<String> {
         [one.clone(), big(110, 0, &[1])],
         [atom("a"), named(100, b"a")],
         [nil(), list(&[], nil())],
+        [nil(), string(b"")],
+        [nil(), list(&[], small(0))],
+        [small(0), big(110, 0, b"")],
         [binary(b"a"), bit_string(8, b"a")],
         [binary(b"a"), bit_string(1, b"b")],
         [list(&[one.clone()], nil()), list(&[one.clone()], small(2))],
         [double(0), double(1 << 63)],
         [double(0x7ff8 << 48), double(0x7ff8 << 48 | 1)],
         [map(&[]), map(&[one.clone(), nil()])],
+        [one.clone(), atom("a")].map(|free| function(&plain_function(1), &required(), &[free])),
+        [1, 2].map(|arity| {
+            let head = Function {
+                arity,
+                ..plain_function(0)
+            };
+            function(&head, &required(), &[])
+        }),
     ];
     let mut requests = Vec::new();
     for [first, second] in keys {
         let pairs = [first.clone(), small(7), second.clone(), small(8)];
         requests.push(term(&whole(&map(&pairs))));
+        // A function's free terms are of the Rust's other kind.
+        let inside = function(&plain_function(1), &required(), &[map(&pairs)]);
+        requests.push(term(&whole(&inside)));
         // The value's segment holds the offset of the second key.
         let faulty = [first, small(7), second, tuple(&[nil(), vec![80]])];
         requests.push(term(&whole(&map(&faulty))));
@@ -466,7 +623,7 @@ fn trailing() -> Vec<String> {
 }
 
 fn headers() -> Vec<String> {
-    let inputs: [&[u8]; 24] = [
+    let inputs: [&[u8]; 27] = [
         &[],
         &[131],
         &[68],
@@ -478,10 +635,13 @@ fn headers() -> Vec<String> {
         &[131, 68, 0, 106],
         &[131, 68, 1],
         &[131, 68, 1, 0],
+        &[131, 68, 1, 8],
         &[131, 68, 1, 0, 5],
         &[131, 68, 1, 8, 5, 0],
         &[131, 68, 1, 8, 5, 0, 106],
         &[131, 68, 1, 24, 5, 1, 98],
+        &[131, 68, 1, 9, 5],
+        &[131, 68, 1, 9, 5, 0],
         &[131, 68, 1, 9, 5, 0, 1, 99],
         &[131, 68, 2, 0x88, 0, 1, 1, 97, 2, 2, 98, 99, 0],
         &[131, 68, 2, 0x88, 1, 3, 0, 1, 97, 4, 0, 2, 98, 99],

@@ -5,10 +5,18 @@ pub fn bytes_of(word: &str) -> Option<Vec<u8>> {
     if word == "-" {
         return Some(Vec::new());
     }
-    if word.is_empty() || word.len() % 2 != 0 {
+    if word.is_empty() {
         return None;
     }
-    word.as_bytes()
+    bytes_in(word)
+}
+
+/// The bytes that a text spells, none for an empty one.
+pub fn bytes_in(text: &str) -> Option<Vec<u8>> {
+    if text.len() % 2 != 0 {
+        return None;
+    }
+    text.as_bytes()
         .chunks(2)
         .map(|pair| Some(digit(pair[0])? << 4 | digit(pair[1])?))
         .collect()

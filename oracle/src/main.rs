@@ -22,6 +22,7 @@ mod term;
 #[path = "erltf/types.rs"]
 mod types;
 
+mod folded;
 mod fragment;
 mod header;
 mod hex;
@@ -45,10 +46,11 @@ fn main() {
     let words: Vec<&str> = words.iter().map(String::as_str).collect();
     let work: fn() -> std::io::Result<()> = match words.as_slice() {
         [] => requests::serve,
+        ["folded"] => folded::serve,
         ["sweep", "utf8"] => sweep::utf8,
         ["sweep", "literal"] => sweep::literal,
         _ => {
-            eprintln!("usage: oracle < REQUESTS, oracle sweep utf8, oracle sweep literal");
+            eprintln!("usage: oracle < REQUESTS, oracle folded < ANSWERS, oracle sweep utf8, oracle sweep literal");
             std::process::exit(1);
         }
     };

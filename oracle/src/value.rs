@@ -1,69 +1,69 @@
-//! The text of a value, without spaces and without loss. The Rust has two
+//! The row of a value: docs/REQUESTS.md has the items. The Rust has two
 //! kinds of term, since a function's free terms are owned; both are written
 //! from their own fields, maps in the order that each map has.
 
 use crate::borrowed::BorrowedTerm;
 use crate::hex;
 use crate::term::OwnedTerm;
-use crate::types::InternalFun;
-use crate::types::{Atom, BigInt, ExternalFun, ExternalPid, ExternalPort, ExternalReference};
-use std::fmt::Write;
+use crate::types::{ExternalPid, InternalFun};
+use std::fmt::{Display, Write};
 
 macro_rules! written {
     ($name:ident, $term:ident) => {
-        fn $name(text: &mut String, term: &$term) {
+        fn $name(row: &mut Row, term: &$term) {
             match term {
-                $term::Integer(number) => {
-                    text.push_str("i:");
-                    push_number(text, number);
-                }
-                $term::Float(double) => {
-                    text.push_str("f:");
-                    hex::push(text, &double.to_bits().to_be_bytes());
-                }
-                $term::Atom(name) => push_bytes(text, "a:", name.as_bytes()),
-                $term::Binary(bytes) => push_bytes(text, "b:", bytes),
+                $term::Integer(number) => row.item(format_args!("i:{number}")),
+                $term::Float(double) => row.bytes("f:", &double.to_bits().to_be_bytes()),
+                $term::Atom(name) => row.bytes("a:", name.as_bytes()),
+                $term::Binary(bytes) => row.bytes("b:", bytes),
                 $term::BitBinary { bytes, bits } => {
-                    text.push_str("bits:");
-                    push_number(text, bits);
-                    push_bytes(text, ":", bytes);
+                    row.bytes(format_args!("bits:{bits}:"), bytes);
                 }
-                $term::BigInt(number) => push_big(text, number),
-                $term::Nil => text.push_str("nil"),
+                $term::BigInt(number) if number.sign.is_negative() => {
+                    row.bytes("n:-:", &number.digits);
+                }
+                $term::BigInt(number) => row.bytes("n:+:", &number.digits),
+                $term::Nil => row.item("nil"),
                 $term::List(elements) => {
-                    text.push('[');
-                    push_all(text, elements, $name);
-                    text.push(']');
+                    row.item(format_args!("list:{}", elements.len()));
+                    elements.iter().for_each(|element| $name(row, element));
+                    row.item("nil");
                 }
                 $term::ImproperList { elements, tail } => {
-                    text.push('[');
-                    push_all(text, elements, $name);
-                    text.push('|');
-                    $name(text, tail);
-                    text.push(']');
+                    row.item(format_args!("list:{}", elements.len()));
+                    elements.iter().for_each(|element| $name(row, element));
+                    $name(row, tail);
                 }
                 $term::Tuple(elements) => {
-                    text.push('{');
-                    push_all(text, elements, $name);
-                    text.push('}');
+                    row.item(format_args!("tuple:{}", elements.len()));
+                    elements.iter().for_each(|element| $name(row, element));
                 }
                 $term::Map(map) => {
-                    text.push_str("#{");
-                    for (index, (key, value)) in map.iter().enumerate() {
-                        if index > 0 {
-                            text.push(',');
-                        }
-                        $name(text, key);
-                        text.push_str("=>");
-                        $name(text, value);
+                    row.item(format_args!("map:{}", map.len()));
+                    for (key, value) in map {
+                        $name(row, key);
+                        $name(row, value);
                     }
-                    text.push('}');
                 }
-                $term::Pid(pid) => push_pid(text, pid),
-                $term::Reference(reference) => push_reference(text, reference),
-                $term::Port(port) => push_port(text, port),
-                $term::ExternalFun(export) => push_export(text, export),
-                $term::InternalFun(function) => push_function(text, function),
+                $term::Pid(pid) => push_pid(row, pid),
+                $term::Reference(reference) => {
+                    row.item(format_args!("ref:{}", reference.creation));
+                    for id in &reference.ids {
+                        row.more(format_args!(":{id}"));
+                    }
+                    row.bytes("a:", reference.node.as_bytes());
+                }
+                $term::Port(port) => {
+                    row.item(format_args!("port:{}:{}", port.id, port.creation));
+                    row.bytes("a:", port.node.as_bytes());
+                }
+                $term::ExternalFun(export) => {
+                    row.item("fun");
+                    row.bytes("a:", export.module.as_bytes());
+                    row.bytes("a:", export.function.as_bytes());
+                    row.item(format_args!("i:{}", export.arity));
+                }
+                $term::InternalFun(function) => push_function(row, function),
                 $term::String(_) => panic!("reading never makes a String"),
             }
         }
@@ -74,89 +74,48 @@ written!(push_borrowed, BorrowedTerm);
 written!(push_owned, OwnedTerm);
 
 pub fn of(term: &BorrowedTerm) -> String {
-    let mut text = String::new();
-    push_borrowed(&mut text, term);
-    text
+    let mut row = Row(String::new());
+    push_borrowed(&mut row, term);
+    row.0
 }
 
-fn push_all<T>(text: &mut String, terms: &[T], push: fn(&mut String, &T)) {
-    for (index, term) in terms.iter().enumerate() {
-        if index > 0 {
-            text.push(',');
+/// Items, joined by commas.
+struct Row(String);
+
+impl Row {
+    fn item(&mut self, text: impl Display) {
+        if !self.0.is_empty() {
+            self.0.push(',');
         }
-        push(text, term);
+        self.more(text);
+    }
+
+    fn more(&mut self, text: impl Display) {
+        write!(self.0, "{text}").expect("a String takes all text");
+    }
+
+    fn bytes(&mut self, kind: impl Display, bytes: &[u8]) {
+        self.item(kind);
+        hex::push(&mut self.0, bytes);
     }
 }
 
-fn push_number(text: &mut String, number: impl std::fmt::Display) {
-    write!(text, "{number}").expect("a String takes all text");
+fn push_pid(row: &mut Row, pid: &ExternalPid) {
+    row.item(format_args!(
+        "pid:{}:{}:{}",
+        pid.id, pid.serial, pid.creation
+    ));
+    row.bytes("a:", pid.node.as_bytes());
 }
 
-fn push_bytes(text: &mut String, kind: &str, bytes: &[u8]) {
-    text.push_str(kind);
-    hex::push(text, bytes);
-}
-
-fn push_atom(text: &mut String, atom: &Atom) {
-    push_bytes(text, "a:", atom.as_bytes());
-}
-
-fn push_big(text: &mut String, number: &BigInt) {
-    let kind = if number.sign.is_negative() {
-        "n:-:"
-    } else {
-        "n:+:"
-    };
-    push_bytes(text, kind, &number.digits);
-}
-
-fn push_pid(text: &mut String, pid: &ExternalPid) {
-    text.push_str("pid(");
-    push_atom(text, &pid.node);
-    push_number(
-        text,
-        format_args!(",{},{},{})", pid.id, pid.serial, pid.creation),
-    );
-}
-
-fn push_reference(text: &mut String, reference: &ExternalReference) {
-    text.push_str("ref(");
-    push_atom(text, &reference.node);
-    push_number(text, format_args!(",{}", reference.creation));
-    for id in &reference.ids {
-        push_number(text, format_args!(",{id}"));
+fn push_function(row: &mut Row, function: &InternalFun) {
+    row.bytes(format_args!("fn:{}:", function.arity), &function.uniq);
+    row.more(format_args!(":{}:{}", function.index, function.num_free));
+    row.bytes("a:", function.module.as_bytes());
+    row.item(format_args!("i:{}", function.old_index));
+    row.item(format_args!("i:{}", function.old_uniq));
+    push_pid(row, &function.pid);
+    for term in &function.free_vars {
+        push_owned(row, term);
     }
-    text.push(')');
-}
-
-fn push_port(text: &mut String, port: &ExternalPort) {
-    text.push_str("port(");
-    push_atom(text, &port.node);
-    push_number(text, format_args!(",{},{})", port.id, port.creation));
-}
-
-fn push_export(text: &mut String, export: &ExternalFun) {
-    text.push_str("fun(");
-    push_atom(text, &export.module);
-    text.push(',');
-    push_atom(text, &export.function);
-    push_number(text, format_args!(",{})", export.arity));
-}
-
-fn push_function(text: &mut String, function: &InternalFun) {
-    push_number(text, format_args!("fn({},", function.arity));
-    hex::push(text, &function.uniq);
-    push_number(
-        text,
-        format_args!(",{},{},", function.index, function.num_free),
-    );
-    push_atom(text, &function.module);
-    push_number(
-        text,
-        format_args!(",{},{},", function.old_index, function.old_uniq),
-    );
-    push_pid(text, &function.pid);
-    text.push_str(",[");
-    push_all(text, &function.free_vars, push_owned);
-    text.push_str("])");
 }

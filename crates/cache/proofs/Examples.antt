@@ -1,13 +1,18 @@
--- Headers that tell a right reader from a wrong one, as the definition computes them; document 01's are among them. Assumes nothing.
+-- Headers, caches and names that tell a right function from a wrong one, as the definitions compute them; document 01's headers are among
+-- them. Assumes nothing.
 use Prim.Native.Nat.{ℕ}
-use mathlib.Core.Path.{_≡_, refl}
+use native.Mathlib.Omega.{arith}
+use mathlib.Core.Path.{_≡_, refl, ap, sym, _∙_}
+use mathlib.Core.Bool.{true, false, false≢true}
 use mathlib.Core.List.{List, [], _∷_, _++_}
-use lib.ListN.{replicate}
+use lib.ListN.{length, replicate}
+use borrow.Author.Tests.{eq-eqb}
 use Rattle.fields.specs.Be.{be, beAt}
 use Rattle.fields.specs.Field.{holds, fieldAt}
 use Rattle.utf8.specs.Unicode.{scalar, encode, decode, starts, charBytes, goodFrom, goodBytes}
 use Rattle.rows.specs.Numbers as number
-use Rattle.cache.specs.Names.{marked}
+use Rattle.cache.specs.declared.Cache.{Cache}
+use Rattle.cache.specs.Names.{storeBytes, filled, marked, gotAt, partOf}
 use Rattle.cache.specs.Header.{Step, Said, refused, sized, named, nameAt, taken, halfOf, isNew, longBit, references, flagged, expect, headerOf, headerIn, markedAll}
 
 abbrev step : ℕ → List ℕ → Step
@@ -71,3 +76,21 @@ examples = record {
   kind = refl;
   store = refl;
 }
+
+-- a cache in which slot 255 is filled is no empty one
+pub last-slot-filled : {r : Cache} → filled (r .filled) 255 ≡ true → ¬ (r ≡ record { filled = replicate 4 0 })
+unfolding filled
+last-slot-filled {r} h e =
+    let f : filled (r .filled) 255 ≡ false = ap (λ (c : Cache). filled (c .filled) 255) e in
+    false≢true (sym f ∙ h)
+
+-- a store of which slot 0 begins 1 97. Its name is the byte 97: a part with the length byte has two. Where the slot isn't filled, the part
+-- is empty, whatever lies there
+module _ (rest : List ℕ) (h : length rest ≡ 65534) where
+  pub name-part : partOf (1 ∷ 97 ∷ rest) (gotAt (1 ∷ 0 ∷ 0 ∷ 0 ∷ []) (1 ∷ 97 ∷ rest) 0) ≡ 97 ∷ []
+  unfolding gotAt filled
+  name-part = rw (eq-eqb (length (1 ∷ 97 ∷ rest)) storeBytes (omega arith)) refl
+
+  pub absent-part : partOf (1 ∷ 97 ∷ rest) (gotAt (0 ∷ 0 ∷ 0 ∷ 0 ∷ []) (1 ∷ 97 ∷ rest) 0) ≡ []
+  unfolding gotAt filled
+  absent-part = rw (eq-eqb (length (1 ∷ 97 ∷ rest)) storeBytes (omega arith)) refl

@@ -14,6 +14,7 @@ pub enum Asked {
     First,
     Next,
     Read,
+    Head,
     Tape,
     Name,
     Number,
@@ -55,6 +56,7 @@ fn what(word: &[u8]) -> Asked {
         0x1_6669727374 => Asked::First,
         0x1_6e657874 => Asked::Next,
         0x1_72656164 => Asked::Read,
+        0x1_68656164 => Asked::Head,
         0x1_74617065 => Asked::Tape,
         0x1_6e616d65 => Asked::Name,
         0x1_6e756d626572 => Asked::Number,
@@ -84,6 +86,7 @@ fn behind(asked: Asked, line: &[u8], from: usize) -> Line
     match asked {
         Asked::Names | Asked::Count | Asked::Clear | Asked::Unknown => unknown(),
         Asked::Get => slot(line, from),
+        Asked::Head => place(line, from),
         Asked::Read | Asked::Tape | Asked::Name | Asked::Number => numbers(asked, line, from),
         _ => made(asked, 0, 0, 0, 0, from),
     }
@@ -98,6 +101,18 @@ fn slot(line: &[u8], from: usize) -> Line
         return unknown();
     };
     made(Asked::Get, n, 0, 0, 0, 0)
+}
+
+// AT
+fn place(line: &[u8], from: usize) -> Line
+    requires { ⌜ from ≤ length (now line) ⌝ }
+    ensures { λ r. ⌜ r .rest ≤ length (now (line .entry)) ⌝ }
+{
+    let at = words::take(line, from);
+    if at.next == 0 {
+        return unknown();
+    }
+    made(Asked::Head, at.value, 0, 0, 0, at.next)
 }
 
 // LIMIT, and a place or the tape's words; a third number where there is one.

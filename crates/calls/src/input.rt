@@ -60,7 +60,7 @@ pub fn keep(text: &mut [u8], from: usize, end: usize) -> usize
     n
 }
 
-pub fn least(a: usize, b: usize) -> usize
+fn least(a: usize, b: usize) -> usize
     ensures { λ r. ⌜ (r ≤ a) × (r ≤ b) ⌝ }
 {
     if a < b { a } else { b }

@@ -9,9 +9,9 @@ mod asked;
 mod cells;
 mod input;
 mod names;
-mod output;
 mod parts;
 mod requests;
+mod values;
 mod words;
 
 use cache::Cache;
@@ -39,7 +39,7 @@ fn space() -> [u32; 327680]
 // Answers all of standard input.
 // A proved loop has to end, and nothing says that the input does: it counts its turns down from a number that no run uses up.
 fn serve(text: &mut [u8], bytes: &mut [u8], store: &mut [u8], run: &mut [u32], out: &mut [u8])
-    requires { ⌜ (131143 < length (now text)) × ((65536 ≤ length (now bytes)) × (64 ≤ length (now out))) ⌝ }
+    requires { ⌜ (131143 < length (now text)) × (65536 ≤ length (now bytes)) ⌝ }
 {
     let mut names = cache::empty();
     let mut kept = 0;
@@ -66,7 +66,7 @@ fn lines(
     run: &mut [u32],
     out: &mut [u8],
 ) -> Reached
-    requires { ⌜ (end ≤ length (now text)) × ((65536 ≤ length (now bytes)) × (64 ≤ length (now out))) ⌝ }
+    requires { ⌜ (end ≤ length (now text)) × (65536 ≤ length (now bytes)) ⌝ }
     ensures { λ r. ⌜ r .at ≤ end ⌝ }
 {
     let mut names = before;
@@ -76,11 +76,11 @@ fn lines(
     while stop < end {
         let next = stop + 1;
         let put = requests::request(&text[from..stop], names, bytes, store, run, out, at);
-        at = output::text(out, put.at, b"\n");
+        at = print::text(out, put.at, b"\n");
         names = put.names;
         from = next;
         stop = input::line_end(text, from, end);
     }
-    output::flush(out, at);
+    print::flush(out, at);
     Reached { at: from, names }
 }

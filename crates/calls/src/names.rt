@@ -1,10 +1,8 @@
 // The requests about the names that headers bring, and their answers as text.
 use crate::answers;
-use crate::output;
+use crate::values;
 use cache::Cache;
 use cache::Got;
-ghost use Prim.Native.Nat.{_≤_};
-ghost use lib.ListN.{length};
 
 // How far something went, and the names as they are then.
 pub struct Reached {
@@ -13,10 +11,7 @@ pub struct Reached {
 }
 
 // Reads a header, which may bring names.
-pub fn header(b: &[u8], before: Cache, store: &mut [u8], out: &mut [u8], at: usize) -> Reached
-    requires { ⌜ (64 ≤ length (now out)) × (at ≤ length (now out)) ⌝ }
-    ensures { λ r. ⌜ r .at ≤ length (now (out .entry)) ⌝ }
-{
+pub fn header(b: &[u8], before: Cache, store: &mut [u8], out: &mut [u8], at: usize) -> Reached {
     let h = cache::header::read(b, before, store);
     let put = answers::rest(h.number, h.rest, h.extra, out, at);
     let names = h.cache;
@@ -24,18 +19,12 @@ pub fn header(b: &[u8], before: Cache, store: &mut [u8], out: &mut [u8], at: usi
 }
 
 // How many names there are.
-pub fn count(c: Cache, out: &mut [u8], at: usize) -> usize
-    requires { ⌜ (64 ≤ length (now out)) × (at ≤ length (now out)) ⌝ }
-    ensures { λ r. ⌜ r ≤ length (now (out .entry)) ⌝ }
-{
-    output::field(out, at, b"names=", cache::count(c) as u64)
+pub fn count(c: Cache, out: &mut [u8], at: usize) -> usize {
+    print::field(out, at, b"names=", cache::count(c) as u64)
 }
 
 // All names, by their slots.
-pub fn all(c: Cache, store: &[u8], out: &mut [u8], at: usize) -> usize
-    requires { ⌜ (64 ≤ length (now out)) × (at ≤ length (now out)) ⌝ }
-    ensures { λ r. ⌜ r ≤ length (now (out .entry)) ⌝ }
-{
+pub fn all(c: Cache, store: &[u8], out: &mut [u8], at: usize) -> usize {
     let mut put = count(c, out, at);
     let mut slot = 0u8;
     while slot < 255 {
@@ -46,44 +35,35 @@ pub fn all(c: Cache, store: &[u8], out: &mut [u8], at: usize) -> usize
 }
 
 // A slot's name behind its slot, nothing where the slot isn't filled.
-fn filled(c: Cache, store: &[u8], slot: u8, out: &mut [u8], at: usize) -> usize
-    requires { ⌜ (64 ≤ length (now out)) × (at ≤ length (now out)) ⌝ }
-    ensures { λ r. ⌜ r ≤ length (now (out .entry)) ⌝ }
-{
+fn filled(c: Cache, store: &[u8], slot: u8, out: &mut [u8], at: usize) -> usize {
     let g = cache::get(c, store, slot);
     match g {
         Got::Name(_, _) => {
-            let mut put = output::field(out, at, b" ", slot as u64);
-            put = output::text(out, put, b"=");
-            output::hex(out, put, cache::part(c, store, slot))
+            let mut put = print::field(out, at, b" ", slot as u64);
+            put = print::text(out, put, b"=");
+            values::word(cache::part(c, store, slot), out, put)
         }
         Got::No(_) => at,
     }
 }
 
 // The name in a slot: its place in the store, its length, and its bytes. There are 256 slots.
-pub fn get(c: Cache, store: &[u8], slot: usize, out: &mut [u8], at: usize) -> usize
-    requires { ⌜ (64 ≤ length (now out)) × (at ≤ length (now out)) ⌝ }
-    ensures { λ r. ⌜ r ≤ length (now (out .entry)) ⌝ }
-{
+pub fn get(c: Cache, store: &[u8], slot: usize, out: &mut [u8], at: usize) -> usize {
     if 255 < slot {
-        return output::text(out, at, b"unknown");
+        return print::text(out, at, b"unknown");
     }
     let g = cache::get(c, store, slot as u8);
     match g {
         Got::Name(place, n) => {
             let put = named(place, n, out, at);
-            output::hex(out, put, cache::part(c, store, slot as u8))
+            values::word(cache::part(c, store, slot as u8), out, put)
         }
-        Got::No(number) => output::field(out, at, b"answer=", number),
+        Got::No(number) => print::field(out, at, b"answer=", number),
     }
 }
 
-fn named(place: usize, n: usize, out: &mut [u8], at: usize) -> usize
-    requires { ⌜ (64 ≤ length (now out)) × (at ≤ length (now out)) ⌝ }
-    ensures { λ r. ⌜ r ≤ length (now (out .entry)) ⌝ }
-{
-    let mut put = output::field(out, at, b"answer=0 place=", place as u64);
-    put = output::field(out, put, b" length=", n as u64);
-    output::text(out, put, b" name=")
+fn named(place: usize, n: usize, out: &mut [u8], at: usize) -> usize {
+    let mut put = print::field(out, at, b"answer=0 place=", place as u64);
+    put = print::field(out, put, b" length=", n as u64);
+    print::text(out, put, b" name=")
 }

@@ -8,11 +8,10 @@ use crate::cells;
 use crate::input;
 use crate::names;
 use crate::names::Reached;
-use crate::output;
 use crate::parts;
+use crate::values;
 use crate::words;
 use cache::Cache;
-ghost use mathlib.Core.Path.{_≡_};
 ghost use Prim.Native.Nat.{_≤_};
 ghost use lib.ListN.{length};
 
@@ -26,8 +25,7 @@ pub fn request(
     out: &mut [u8],
     at: usize,
 ) -> Reached
-    requires { ⌜ (65536 ≤ length (now bytes)) × ((64 ≤ length (now out)) × (at ≤ length (now out))) ⌝ }
-    ensures { λ r. ⌜ r .at ≤ length (now (out .entry)) ⌝ }
+    requires { ⌜ 65536 ≤ length (now bytes) ⌝ }
 {
     if input::LONGEST < line.len() {
         return reached(long(out, at), known);
@@ -41,10 +39,7 @@ pub fn request(
 }
 
 // What is asked of no bytes.
-fn wordless(l: Line, known: Cache, store: &[u8], out: &mut [u8], at: usize) -> Reached
-    requires { ⌜ (64 ≤ length (now out)) × (at ≤ length (now out)) ⌝ }
-    ensures { λ r. ⌜ r .at ≤ length (now (out .entry)) ⌝ }
-{
+fn wordless(l: Line, known: Cache, store: &[u8], out: &mut [u8], at: usize) -> Reached {
     let asked = l.asked;
     match asked {
         Asked::Names => reached(names::all(known, store, out, at), known),
@@ -54,7 +49,7 @@ fn wordless(l: Line, known: Cache, store: &[u8], out: &mut [u8], at: usize) -> R
             reached(names::count(none, out, at), none)
         }
         Asked::Get => reached(names::get(known, store, l.first, out, at), known),
-        _ => reached(output::text(out, at, b"unknown"), known),
+        _ => reached(print::text(out, at, b"unknown"), known),
     }
 }
 
@@ -69,15 +64,14 @@ fn over(
     out: &mut [u8],
     at: usize,
 ) -> Reached
-    requires { ⌜ (65536 ≤ length (now bytes)) × ((64 ≤ length (now out)) × (at ≤ length (now out))) ⌝ }
-    ensures { λ r. ⌜ r .at ≤ length (now (out .entry)) ⌝ }
+    requires { ⌜ 65536 ≤ length (now bytes) ⌝ }
 {
     let n = word.len() / 2;
     if 65536 < n {
         return reached(long(out, at), known);
     }
     if !words::decode(word, bytes) {
-        return reached(output::text(out, at, b"unknown"), known);
+        return reached(print::text(out, at, b"unknown"), known);
     }
     let asked = l.asked;
     if let Asked::Header = asked {
@@ -86,34 +80,27 @@ fn over(
     reached(answer(l, &bytes[..n], run, out, at), known)
 }
 
-fn answer(l: Line, b: &[u8], run: &mut [u32], out: &mut [u8], at: usize) -> usize
-    requires { ⌜ (64 ≤ length (now out)) × (at ≤ length (now out)) ⌝ }
-    ensures { λ r. ⌜ r ≤ length (now (out .entry)) ⌝ }
-{
+fn answer(l: Line, b: &[u8], run: &mut [u32], out: &mut [u8], at: usize) -> usize {
     let asked = l.asked;
     match asked {
-        Asked::Term => answers::term(b, run, out, at),
+        Asked::Term => cells::term(b, run, out, at),
         Asked::Utf8 => answers::utf8(b, out, at),
         Asked::Literal => answers::literal(b, out, at),
         Asked::First => parts::first(b, out, at),
         Asked::Next => parts::next(b, out, at),
+        Asked::Head => values::head(b, l.first, out, at),
         Asked::Read => answers::read(b, l.first, l.second, out, at),
         Asked::Tape => cells::tape(b, l.first, l.second, run, out, at),
         Asked::Name => answers::find_name(b, l.first, l.second, l.third, out, at),
         Asked::Number => answers::find_number(b, l.first, l.second, l.key, out, at),
-        _ => output::text(out, at, b"unknown"),
+        _ => print::text(out, at, b"unknown"),
     }
 }
 
-fn long(out: &mut [u8], at: usize) -> usize
-    requires { ⌜ (64 ≤ length (now out)) × (at ≤ length (now out)) ⌝ }
-    ensures { λ r. ⌜ r ≤ length (now (out .entry)) ⌝ }
-{
-    output::text(out, at, b"long")
+fn long(out: &mut [u8], at: usize) -> usize {
+    print::text(out, at, b"long")
 }
 
-fn reached(at: usize, names: Cache) -> Reached
-    ensures { λ r. ⌜ r .at ≡ at ⌝ }
-{
+fn reached(at: usize, names: Cache) -> Reached {
     Reached { at, names }
 }

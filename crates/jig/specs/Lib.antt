@@ -1,1 +1,4 @@
 pub mod Shown
+pub mod Heads
+pub mod Names
+pub mod Fragments

@@ -1,25 +1,324 @@
-// The jig: the calls that a program in another language makes. Everything is lent, as runs of numbers.
+// The jig: the calls that a program in another language makes. Everything is lent, as runs of numbers, and every answer is told as numbers.
 //
-// It stands over the tape and judges nothing itself.
+// It stands over all that reads and judges nothing itself. A call's promise is that of the call beneath it; specs/ says, in one definition
+// for each kind of answer, how the answer becomes numbers. jig/sillthread.h is the same page for a C program.
+use cache::Cache;
+use cache::Got;
+use heads::Headed;
+use heads::Value;
+use terms::Answer;
+use terms::Kind;
+use terms::Segment;
 ghost use mathlib.Core.Path.{_≡_};
-ghost use lib.ListN.{length, getD};
+ghost use mathlib.Core.Bool.{cond};
+ghost use Prim.Native.Nat.{_≤_};
+ghost use lib.ListN.{length, getD, replicate};
+ghost use lib.Seq.{sets};
+ghost use Rattle.utf8.specs.Unicode.{goodBytes};
+ghost use Rattle.terms.specs.Answer.{readAt};
+ghost use Rattle.terms.specs.Told.{kindNumber};
 ghost use Rattle.tape.specs.Read.{readAll, Left};
-ghost use Rattle.jig.specs.Shown.{shown};
+ghost use Rattle.heads.specs.Head.{headAt, runOf};
+ghost use Rattle.lookup.specs.Lookup as key;
+ghost use Rattle.cache.specs.Names.{countOf, gotAt};
+ghost use Rattle.cache.specs.Header.{headerIn, storedAll, markedAll};
+ghost use Rattle.fragments.specs.Fragment.{firstAt, nextAt};
+ghost use Rattle.jig.specs.Shown.{shown, traced, Found};
+ghost use Rattle.jig.specs.Shown as spec;
+ghost use Rattle.jig.specs.Heads.{twos, headed, placed};
+ghost use Rattle.jig.specs.Names.{held, said};
+ghost use Rattle.jig.specs.Fragments.{first, next};
 
-// Reads a record and writes its tape, as tape::read does. Told are, of its answer: number, offset, extra, terms begun, deepest nesting, and
-// the path's length.
+// Reads a record and writes its tape, as tape::read does. Told are number, end, offset, extra, terms begun, deepest nesting and the
+// segments in the path; of a refusal's path, two words for each segment.
 #[no_mangle]
-pub extern "C" fn sill_read(b: &[u8], limit: usize, tape: &mut [u32], told: &mut [u64; 6])
+pub extern "C" fn sill_read(
+    b: &[u8],
+    limit: usize,
+    tape: &mut [u32],
+    told: &mut [u64; 7],
+    path: &mut [u64; 128],
+)
     ensures { λ _. ⌜ now (told .exit) ≡ shown (readAll (now (b .entry)) limit (length (now (tape .entry)))) ⌝ }
+    ensures { λ _. ⌜ now (path .exit) ≡ traced (readAll (now (b .entry)) limit (length (now (tape .entry)))) (now (path .entry)) ⌝ }
     ensures { λ _. ⌜ Left (now (b .entry)) (getD (now (told .exit)) 0 0) (now (tape .entry)) (now (tape .exit)) ⌝ }
 {
     let a = tape::read(b, limit, tape);
+    answer(a, told, path);
+}
+
+// Reads the term at a place, any place, as terms::read does. Told as by sill_read.
+#[no_mangle]
+pub extern "C" fn sill_term(
+    b: &[u8],
+    at: usize,
+    limit: usize,
+    told: &mut [u64; 7],
+    path: &mut [u64; 128],
+)
+    ensures { λ _. ⌜ now (told .exit) ≡ shown (readAt (now (b .entry)) at limit) ⌝ }
+    ensures { λ _. ⌜ now (path .exit) ≡ traced (readAt (now (b .entry)) at limit) (now (path .entry)) ⌝ }
+{
+    let a = terms::read(b, at, limit);
+    answer(a, told, path);
+}
+
+// Looks an atom up by its name in the map at a place, as lookup::find_name does. Told as by sill_read; the offset is the value's.
+#[no_mangle]
+pub extern "C" fn sill_find_name(
+    b: &[u8],
+    at: usize,
+    limit: usize,
+    name: &[u8],
+    told: &mut [u64; 7],
+    path: &mut [u64; 128],
+)
+    ensures { λ _. ⌜ Found (now (b .entry)) at limit (key.name (now (name .entry))) (now (told .exit)) (now (path .entry)) (now (path .exit)) ⌝ }
+{
+    let a = lookup::find_name(b, at, limit, name);
+    answer(a, told, path);
+}
+
+// The same of an integer, as lookup::find_number does.
+#[no_mangle]
+pub extern "C" fn sill_find_number(
+    b: &[u8],
+    at: usize,
+    limit: usize,
+    number: i64,
+    told: &mut [u64; 7],
+    path: &mut [u64; 128],
+)
+    ensures { λ _. ⌜ Found (now (b .entry)) at limit (key.number number) (now (told .exit)) (now (path .entry)) (now (path .exit)) ⌝ }
+{
+    let a = lookup::find_number(b, at, limit, number);
+    answer(a, told, path);
+}
+
+// What stands at a place without its children, as heads::head says. Told are number, tag, offset, extra, then the fields of the head's
+// value in their order, 0 where there are fewer than five: an integer by its two's complement, a double by its bits.
+#[no_mangle]
+pub extern "C" fn sill_head(b: &[u8], at: usize, told: &mut [u64; 9])
+    ensures { λ _. ⌜ now (told .exit) ≡ headed (headAt (now (b .entry)) at) ⌝ }
+{
+    let h = heads::head(b, at);
+    *told = head(h);
+}
+
+// Where the bytes of an atom's name or of a binary stand and how many they are, as heads::part hands them out; 0 and 0 for any other head.
+#[no_mangle]
+pub extern "C" fn sill_part(b: &[u8], at: usize, told: &mut [u64; 2])
+    ensures { λ _. ⌜ now (told .exit) ≡ placed (runOf (headAt (now (b .entry)) at .value)) ⌝ }
+{
+    let h = heads::head(b, at);
+    *told = part(h);
+}
+
+// A cache with no name in it, as cache::empty says: its four words.
+#[no_mangle]
+pub extern "C" fn sill_empty(filled: &mut [u64; 4])
+    ensures { λ _. ⌜ now (filled .exit) ≡ replicate 4 0 ⌝ }
+{
+    let c = cache::empty();
+    let words = c.filled;
+    *filled = words;
+}
+
+// The count of names in a cache, as cache::count says.
+#[no_mangle]
+pub extern "C" fn sill_count(filled: &[u64; 4]) -> usize
+    ensures { λ r. ⌜ r ≡ countOf (now (filled .entry)) ⌝ }
+{
+    let words = *filled;
+    cache::count(Cache { filled: words })
+}
+
+// The name in a slot, as cache::get says. Told are number, its place in the store and its length.
+#[no_mangle]
+pub extern "C" fn sill_get(filled: &[u64; 4], store: &[u8], slot: u8, told: &mut [u64; 3])
+    ensures { λ _. ⌜ now (told .exit) ≡ held (gotAt (now (filled .entry)) (now (store .entry)) slot) ⌝ }
+{
+    let words = *filled;
+    let g = cache::get(Cache { filled: words }, store, slot);
+    *told = name(g);
+}
+
+// Reads an atom header, as cache::header::read does. Told are number, where the rest begins, and extra; the names completed are in the
+// cache, refused or not.
+#[no_mangle]
+pub extern "C" fn sill_header(
+    b: &[u8],
+    filled: &mut [u64; 4],
+    store: &mut [u8],
+    told: &mut [u64; 3],
+)
+    ensures { λ _. ⌜ now (told .exit) ≡ said (headerIn (now (b .entry)) (length (now (store .entry)))) ⌝ }
+    ensures { λ _. ⌜ now (filled .exit) ≡ markedAll (headerIn (now (b .entry)) (length (now (store .entry))) .steps) (now (filled .entry)) ⌝ }
+    ensures { λ _. ⌜ now (store .exit) ≡ storedAll (headerIn (now (b .entry)) (length (now (store .entry))) .steps) (now (store .entry)) ⌝ }
+{
+    let words = *filled;
+    let h = cache::header::read(b, Cache { filled: words }, store);
+    let c = h.cache;
+    let marked = c.filled;
+    *filled = marked;
+    *told = [h.number, h.rest as u64, h.extra];
+}
+
+// Reads a first fragment's header, as fragments::first does. Told are number, where the rest begins, extra, sequence, fragment and count.
+#[no_mangle]
+pub extern "C" fn sill_first(b: &[u8], told: &mut [u64; 6])
+    ensures { λ _. ⌜ now (told .exit) ≡ first (firstAt (now (b .entry))) ⌝ }
+{
+    let f = fragments::first(b);
+    *told = [
+        f.number,
+        f.rest as u64,
+        f.extra,
+        f.sequence,
+        f.fragment,
+        f.count,
+    ];
+}
+
+// The same of a later fragment, as fragments::next does; there is no count.
+#[no_mangle]
+pub extern "C" fn sill_next(b: &[u8], told: &mut [u64; 5])
+    ensures { λ _. ⌜ now (told .exit) ≡ next (nextAt (now (b .entry))) ⌝ }
+{
+    let f = fragments::next(b);
+    *told = [f.number, f.rest as u64, f.extra, f.sequence, f.fragment];
+}
+
+// How many leading bytes of a text form whole good characters, as utf8::good says.
+#[no_mangle]
+pub extern "C" fn sill_utf8(b: &[u8]) -> usize
+    ensures { λ r. ⌜ r ≡ goodBytes (now (b .entry)) ⌝ }
+{
+    utf8::good(b)
+}
+
+// The answer of a read or a lookup. The path's words are written only where it has segments: a Done read costs the seven numbers.
+fn answer(a: Answer, told: &mut [u64; 7], path: &mut [u64; 128])
+    requires { ⌜ a .len ≤ 64 ⌝ }
+    ensures { λ _. ⌜ now (told .exit) ≡ shown a ⌝ }
+    ensures { λ _. ⌜ now (path .exit) ≡ traced a (now (path .entry)) ⌝ }
+{
+    let n = a.len;
     *told = [
         a.number,
+        a.end as u64,
         a.offset as u64,
         a.extra,
         a.begun as u64,
         a.deepest as u64,
-        a.len as u64,
+        n as u64,
     ];
+    if n != 0 {
+        let segments = a.path;
+        trace(segments, n, path);
+    }
+}
+
+// The first n segments, two words for each.
+fn trace(segments: [Segment; 64], n: usize, path: &mut [u64; 128])
+    requires { ⌜ n ≤ 64 ⌝ }
+    ensures { λ _. ⌜ now (path .exit) ≡ sets (now (path .entry)) 0 (spec.segments segments n 0) ⌝ }
+{
+    let mut i = 0;
+    while i < n {
+        let s = segments[i];
+        let k = s.kind;
+        path[i * 2] = kind(k);
+        path[i * 2 + 1] = s.number;
+        i += 1;
+    }
+}
+
+fn kind(k: Kind) -> u64
+    ensures { λ r. ⌜ r ≡ kindNumber k ⌝ }
+{
+    match k {
+        Kind::Tuple => 0,
+        Kind::List => 1,
+        Kind::Tail => 2,
+        Kind::Key => 3,
+        Kind::Value => 4,
+        Kind::Free => 5,
+    }
+}
+
+// A head: its fields behind number, tag, offset and extra, and 0 where there are fewer than five.
+fn head(h: Headed) -> [u64; 9]
+    ensures { λ r. ⌜ r ≡ headed h ⌝ }
+{
+    let tag = h.tag as u64;
+    let value = h.value;
+    match value {
+        Value::Integer(z) => [0, tag, 0, 0, bits(z), 0, 0, 0, 0],
+        Value::NumberText(p, n) => [0, tag, 0, 0, p as u64, n as u64, 0, 0, 0],
+        Value::Double(_, x) => [0, tag, 0, 0, x, 0, 0, 0, 0],
+        Value::Atom(p, n) => [0, tag, 0, 0, p as u64, n as u64, 0, 0, 0],
+        Value::Tuple(n) => [0, tag, 0, 0, n, 0, 0, 0, 0],
+        Value::Nil => [0, tag, 0, 0, 0, 0, 0, 0, 0],
+        Value::String(p, n) => [0, tag, 0, 0, p as u64, n as u64, 0, 0, 0],
+        Value::List(n) => [0, tag, 0, 0, n, 0, 0, 0, 0],
+        Value::Binary(p, n) => [0, tag, 0, 0, p as u64, n as u64, 0, 0, 0],
+        Value::BitString(p, n, k) => [0, tag, 0, 0, p as u64, n as u64, k, 0, 0],
+        Value::Big(p, n, sign, negative) => {
+            [0, tag, 0, 0, p as u64, n as u64, sign, one(negative), 0]
+        }
+        Value::Map(n) => [0, tag, 0, 0, n, 0, 0, 0, 0],
+        Value::Pid(p, n, id, serial, creation) => {
+            [0, tag, 0, 0, p as u64, n as u64, id, serial, creation]
+        }
+        Value::Reference(k, p, n, creation, ids) => {
+            [0, tag, 0, 0, k, p as u64, n as u64, creation, ids as u64]
+        }
+        Value::Port(p, n, id, creation) => [0, tag, 0, 0, p as u64, n as u64, id, creation, 0],
+        Value::Export => [0, tag, 0, 0, 0, 0, 0, 0, 0],
+        Value::Function(size, arity, p, index, free) => {
+            [0, tag, 0, 0, size, arity, p as u64, index, free]
+        }
+        Value::No(number, offset, extra) => [number, tag, offset as u64, extra, 0, 0, 0, 0, 0],
+    }
+}
+
+// A truth as a number.
+fn one(truth: bool) -> u64
+    ensures { λ r. ⌜ r ≡ cond truth 1 0 ⌝ }
+{
+    if truth { 1 } else { 0 }
+}
+
+// Two's complement. No operation takes a negative integer to its bits, so what it is below -1 is taken off the largest word.
+fn bits(z: i64) -> u64
+    ensures { λ r. ⌜ r ≡ twos z ⌝ }
+{
+    if z < 0 {
+        18446744073709551615 - ((-1 - z) as u64)
+    } else {
+        z as u64
+    }
+}
+
+// The bytes of an atom's name or of a binary.
+fn part(h: Headed) -> [u64; 2]
+    ensures { λ r. ⌜ r ≡ placed (runOf (h .value)) ⌝ }
+{
+    let value = h.value;
+    match value {
+        Value::Atom(p, n) => [p as u64, n as u64],
+        Value::Binary(p, n) => [p as u64, n as u64],
+        _ => [0, 0],
+    }
+}
+
+// A name in its slot.
+fn name(g: Got) -> [u64; 3]
+    ensures { λ r. ⌜ r ≡ held g ⌝ }
+{
+    match g {
+        Got::Name(p, n) => [0, p as u64, n as u64],
+        Got::No(number) => [number, 0, 0],
+    }
 }

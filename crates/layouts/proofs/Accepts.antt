@@ -28,6 +28,7 @@ pub record Found (b : List ℕ) (at limit : ℕ) (a : Answer) : Type 0 where
   pub stands : Stands b at (bytes tree)
   pub ends : a .end ≡ at + length (bytes tree)
   pub counted : a .begun ≡ size tree
+  pub nested : a .deepest ≡ depth tree
 
 module _ (b : List ℕ) (at limit : ℕ) where
   abbrev start : At
@@ -55,11 +56,13 @@ module _ (b : List ℕ) (at limit : ℕ) where
       go false false (no n x t p) e h = absurd (omega (arith, refuses n x t p e))
       go false false (done t) e h =
           let l = sound b limit limit start t e in
-          record { tree = l .tree; laid = l .laid; shallow = l .shallow; stands = l .stands; ends = l .ends; counted = omega (arith, l .counted) }
+          let r = complete b limit (l .laid) limit start (l .shallow) (omega arith) (l .stands) in
+          let deep : t .deepest ≡ r .stop .deepest = let f : done t ≡ done (r .stop) = sym e ∙ r .is in cc in
+          record { tree = l .tree; laid = l .laid; shallow = l .shallow; stands = l .stands; ends = l .ends; counted = omega (arith, l .counted); nested = omega (arith, deep, r .nested) }
 
   pub read-complete : (t : Tree) → Laid t → 1 ≤ limit → depth t ≤ limit → limit ≤ 64 → length b ≤ 16777216 → Stands b at (bytes t) →
       (readAt b at limit .number ≡ 0) × (readAt b at limit .end ≡ at + length (bytes t)) × (readAt b at limit .begun ≡ size t)
   unfolding answer
   read-complete t l o d h k s =
-      let r = complete b limit l limit start d s in
+      let r = complete b limit l limit start d (omega arith) s in
       rw (read-on b at limit (done (r .stop)) (λ e. omega arith) h k (sym (r .is))) (refl, r .at, omega (arith, r .counted))

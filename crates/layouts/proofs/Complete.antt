@@ -1,6 +1,6 @@
--- Every layout is read to its end: where the bytes of a term stand, and its nesting is within what is left, reading is Done behind them and
--- has begun as many terms as are in it. Assumes nothing.
-use Prim.Native.Nat.{ℕ, zero, suc, _+_, _-_, _*_, _≤_, _<_}
+-- Every layout is read to its end: where the bytes of a term stand, and its nesting is within what is left, reading is Done behind them,
+-- has begun as many terms as are in it, and has been as deep as it is nested. Assumes nothing.
+use Prim.Native.Nat.{ℕ, zero, suc, _+_, _-_, _*_, _≤_, _<_, max}
 use native.Mathlib.Omega.{arith}
 use native.Mathlib.Nat.{add-zero, zero-add}
 use mathlib.Core.Path.{_≡_, refl, _∙_}
@@ -26,20 +26,29 @@ use Rattle.layouts.specs.Layout.{Number, IsAtom, IsNatural, Leaf, Laid, 
 use Rattle.layouts.proofs.Stands.{byte, behind, left, right, spells}
 use Rattle.layouts.proofs.Leaves.{leaf-complete}
 
--- reading is Done: it stops at e, and has begun n terms more
-pub record Reads (o : Out) (s : At) (e n : ℕ) : Type 0 where
+-- reading is Done: it stops at e, and has begun n terms more, nested d deep inside `around` others. Where it has begun none, d is 0, and
+-- the deepest nesting need not reach `around`: so that stands on both sides
+pub record Reads (o : Out) (s : At) (e n around d : ℕ) : Type 0 where
   pub stop : At
   pub is : o ≡ done stop
   pub at : stop .pos ≡ e
   pub counted : stop .begun ≡ s .begun + n
+  pub rises : s .deepest ≤ stop .deepest
+  pub nested : max (stop .deepest) around ≡ max (s .deepest) (around + d)
 
-module _ (b : List ℕ) where
-  -- wherever the bytes l stand, f reads just them, and begins n terms
-  record Over (f : At → Out) (l : List ℕ) (n : ℕ) : Type 0 where
-    run : (s : At) → Stands b (s .pos) l → Reads (f s) s (s .pos + length l) n
+max-zero : (n : ℕ) → max n 0 ≡ n
+max-zero n = omega arith
+
+zero-max : (n : ℕ) → max 0 n ≡ n
+zero-max n = omega arith
+
+module _ (b : List ℕ) (around : ℕ) where
+  -- wherever the bytes l stand, f reads just them, and begins n terms, nested d deep
+  record Over (f : At → Out) (l : List ℕ) (n d : ℕ) : Type 0 where
+    run : (s : At) → Stands b (s .pos) l → Reads (f s) s (s .pos + length l) n around d
 
   -- one step, then another, over bytes side by side
-  both : {f : At → Out} {g : At → At → Out} {l m : List ℕ} {n k : ℕ} → Over f l n → ((s : At) → Over (g s) m k) → Over (λ s. andThen (f s) (g s)) (l ++ m) (n + k)
+  both : {f : At → Out} {g : At → At → Out} {l m : List ℕ} {n k d e : ℕ} → Over f l n d → ((s : At) → Over (g s) m k e) → Over (λ s. andThen (f s) (g s)) (l ++ m) (n + k) (max d e)
   both {f} {g} {l} {m} x y = record {
     run = λ s h.
         let c = x .run s (left b (s .pos) l m h) in
@@ -49,27 +58,29 @@ module _ (b : List ℕ) where
           is = then-done (f s) (g s) (c .is) ∙ d .is;
           at = omega (arith, c .at, d .at, length-append l m);
           counted = omega (arith, c .counted, d .counted);
+          rises = omega (arith, c .rises, d .rises);
+          nested = omega (arith, c .nested, d .nested);
         };
   }
 
   -- a reader that is Done wherever another is
-  likewise : {f g : At → Out} {l : List ℕ} {n : ℕ} → ((s t : At) → Stands b (s .pos) l → f s ≡ done t → g s ≡ done t) → Over f l n → Over g l n
-  likewise e x = record { run = λ s h. let c = x .run s h in record { stop = c .stop; is = e s (c .stop) h (c .is); at = c .at; counted = c .counted } }
+  likewise : {f g : At → Out} {l : List ℕ} {n d : ℕ} → ((s t : At) → Stands b (s .pos) l → f s ≡ done t → g s ≡ done t) → Over f l n d → Over g l n d
+  likewise e x = record { run = λ s h. let c = x .run s h in record { stop = c .stop; is = e s (c .stop) h (c .is); at = c .at; counted = c .counted; rises = c .rises; nested = c .nested } }
 
   -- n bytes
-  passed : (l : List ℕ) (n : ℕ) → length l ≡ n → Over (pass b n) l 0
+  passed : (l : List ℕ) (n : ℕ) → length l ≡ n → Over (pass b n) l 0 0
   passed l n e = record {
     run = λ s h.
         let i = is-there n b (s .pos) (omega (arith, h .inside)) in
-        record { stop = moved (s .pos + n) s; is = pass-on b n s i; at = omega arith; counted = omega arith };
+        record { stop = moved (s .pos + n) s; is = pass-on b n s i; at = omega arith; counted = omega arith; rises = omega arith; nested = omega arith };
   }
 
   -- f reads a tree; f reads what stands behind a tag
   record Child (f : At → Out) (t : Tree) : Type 0 where
-    over : Over f (bytes t) (size t)
+    over : Over f (bytes t) (size t) (depth t)
 
   record Parts (f : At → Out) (front : List ℕ) (kids : Forest) (back : List ℕ) : Type 0 where
-    over : Over f (front ++ (bytesAll kids ++ back)) (sizes kids)
+    over : Over f (front ++ (bytesAll kids ++ back)) (sizes kids) (depths kids)
 
   module _ {front : List ℕ} {kids : Forest} {back : List ℕ} where
     -- a reader that answers the same
@@ -82,7 +93,7 @@ module _ (b : List ℕ) where
 
     -- bytes in front
     after : (l : List ℕ) {n : ℕ} {f : At → Out} → length l ≡ n → Parts f front kids back → Parts (λ s. andThen (pass b n s) f) (l ++ front) kids back
-    after l {n} e x = record { over = rw (append-assoc, ← zero-add (sizes kids)) (both (passed l n e) (λ s. x .over)) }
+    after l {n} e x = record { over = rw (append-assoc, ← zero-add (sizes kids), ← zero-max (depths kids)) (both (passed l n e) (λ s. x .over)) }
 
   module _ {kids : Forest} {back : List ℕ} where
     -- a count, and what it says of what stands behind it
@@ -97,35 +108,37 @@ module _ (b : List ℕ) where
               is = sized-is k b f s (spells b (s .pos) (left b (s .pos) l m h) w) ∙ c .is;
               at = omega (arith, c .at, length-append l m, w .wide);
               counted = c .counted;
+              rises = c .rises;
+              nested = c .nested;
             };
       };
     }
 
     -- a child, and what stands behind it
     next : {x : Tree} {f : At → Out} {g : At → At → Out} → Child f x → ((s : At) → Parts (g s) [] kids back) → Parts (λ s. andThen (f s) (g s)) [] (more x kids) back
-    unfolding bytesAll sizes
+    unfolding bytesAll sizes depths
     next x y = record { over = rw append-assoc (both (x .over) (λ s. y s .over)) }
 
   -- a last child, no child, and the bytes behind the children
   sole : {x : Tree} {f : At → Out} → Child f x → Parts f [] (more x none) []
-  unfolding bytesAll sizes
-  sole x = record { over = simp (append-nil, add-zero) (x .over) }
+  unfolding bytesAll sizes depths
+  sole x = record { over = simp (append-nil, add-zero, max-zero) (x .over) }
 
   nothing : Parts done [] none []
-  unfolding bytesAll sizes
-  nothing = record { over = record { run = λ s h. record { stop = s; is = refl; at = omega arith; counted = omega arith } } }
+  unfolding bytesAll sizes depths
+  nothing = record { over = record { run = λ s h. record { stop = s; is = refl; at = omega arith; counted = omega arith; rises = omega arith; nested = omega arith } } }
 
   behind-child : {l : List ℕ} {n : ℕ} → length l ≡ n → Parts (pass b n) [] none l
-  unfolding bytesAll sizes
+  unfolding bytesAll sizes depths
   behind-child {l} {n} e = record { over = passed l n e }
 
   -- a row without children
   rowed : {tag : ℕ} {l : List ℕ} → Leaf tag l → Parts (λ s. fields (rows.leaf b tag (s .pos)) s) l none []
-  unfolding bytesAll sizes
+  unfolding bytesAll sizes depths
   rowed {l = l} w = record {
     over = simp append-nil (record {
       run = λ s h.
-          record { stop = moved (s .pos + length l) s; is = fields-to s (leaf-complete b (s .pos) w h); at = refl; counted = omega arith };
+          record { stop = moved (s .pos + length l) s; is = fields-to s (leaf-complete b (s .pos) w h); at = refl; counted = omega arith; rises = omega arith; nested = omega arith };
     });
   }
 
@@ -243,26 +256,33 @@ module _ (b : List ℕ) where
           next (a-pid (reads _ q (omega arith)) l) (λ s.
           elements (each ts (omega arith)) kind.Free 0))))))
 
-  -- a term: its tag, and what stands behind it with one level less
-  laid : (limit rem : ℕ) {t : Tree} → Laid t → depth t ≤ rem → Child (term b limit rem) t
+-- the children's nesting, seen from one level further out
+one-deeper : (around deep stop d : ℕ) {w : ℕ} → w ≡ suc around → max deep w ≤ stop → max stop w ≡ max (max deep w) (w + d) → max stop around ≡ max deep (around + suc d)
+one-deeper around deep stop d e h k = omega arith
+
+-- a term: its tag, and what stands behind it with one level less
+module _ (b : List ℕ) (limit : ℕ) where
+  laid : (rem : ℕ) {t : Tree} → Laid t → depth t ≤ rem → rem ≤ limit → Child b (limit - rem) (term b limit rem) t
   unfolding term depth bytes size
-  laid limit zero {t = node tag front kids back} w d = absurd (omega arith)
-  laid limit (suc r) {t = node tag front kids back} w d = record {
+  laid zero {t = node tag front kids back} w d m = absurd (omega arith)
+  laid (suc r) {t = node tag front kids back} w d m = record {
     over = record {
       run = λ s h.
           let l = front ++ (bytesAll kids ++ back) in
           let i : s .pos < length b = omega (arith, h .inside) in
-          let c = rest (term b limit r) r (λ t. laid limit r) w (omega arith) .over .run (begin (limit - r) s) (behind b (s .pos) tag l h) in
+          let c = rest b (limit - r) (term b limit r) r (λ t x k. laid r x k (omega arith)) w (omega arith) .over .run (begin (limit - r) s) (behind b (s .pos) tag l h) in
           record {
             stop = c .stop;
             is = rw (lt-ltb (s .pos) (length b) i, byte b (s .pos) tag l h) (c .is);
             at = omega (arith, c .at);
             counted = omega (arith, c .counted);
+            rises = omega (arith, c .rises);
+            nested = one-deeper (limit - suc r) (s .deepest) (c .stop .deepest) (depths kids) (omega arith) (c .rises) (c .nested);
           };
     };
   }
 
--- a layout is read to its end
-pub complete : (b : List ℕ) (limit : ℕ) {t : Tree} → Laid t → (rem : ℕ) (s : At) → depth t ≤ rem → Stands b (s .pos) (bytes t) →
-    Reads (term b limit rem s) s (s .pos + length (bytes t)) (size t)
-complete b limit w rem s d h = laid b limit rem w d .over .run s h
+  -- a layout is read to its end
+  pub complete : {t : Tree} → Laid t → (rem : ℕ) (s : At) → depth t ≤ rem → rem ≤ limit → Stands b (s .pos) (bytes t) →
+      Reads (term b limit rem s) s (s .pos + length (bytes t)) (size t) (limit - rem) (depth t)
+  complete w rem s d m h = laid rem w d m .over .run s h

@@ -49,6 +49,29 @@ pub fn shape_at(b: &[u8], pos: usize) -> Shape
     }
 }
 
+// The same, the commonest terms with children first: for a loop over terms that aren't short.
+pub fn inner_at(b: &[u8], pos: usize) -> Shape
+    ensures { λ r. ⌜ r ≡ shapeAt (now (b .entry)) pos ⌝ }
+{
+    if b.len() <= pos {
+        return ends(pos);
+    }
+    if 16777216 < b.len() {
+        return ends(pos);
+    }
+    let tag = b[pos];
+    if tag == 104 {
+        return holds(pos + 2, one(b, pos + 1), 0);
+    }
+    if tag == 108 {
+        return holds(pos + 5, four(b, pos + 1) + 1, 0);
+    }
+    if tag == 116 {
+        return holds(pos + 5, 2 * four(b, pos + 1), 0);
+    }
+    shape_at(b, pos)
+}
+
 // The end of one of the commonest terms without children, for a loop over children: 0 says nothing.
 pub fn short_at(b: &[u8], pos: usize) -> usize
     ensures { λ r. ⌜ r ≡ shortAt (now (b .entry)) pos ⌝ }

@@ -9,12 +9,14 @@ use lib.IntN.{pos, negsuc}
 use lib.ListN.{length}
 use lib.Seq.{take-length}
 use Rattle.fields.specs.Be.{be, signed}
+use Rattle.utf8.specs.Unicode.{scalar, encode}
+use Rattle.utf8.specs.Good as good
 use Rattle.terms.specs.declared.Answer.{Answer}
 use Rattle.terms.specs.Answer.{readAt}
 use Rattle.layouts.specs.Tree.{Tree, node, none, more, leaf, count, bytes, size, depth, Stands}
-use Rattle.layouts.specs.Layout.{Laid, row, map, nil, small-integer, integer, small-big, no-more, one-more}
+use Rattle.layouts.specs.Layout.{Laid, Utf8, row, map, nil, small-integer, integer, small-atom, string, small-big, no-more, one-more}
 use Rattle.layouts.proofs.Accepts.{read-complete}
-use Rattle.lookup.specs.Lookup.{Key, number, sameInteger, equal, found, looked, Looked}
+use Rattle.lookup.specs.Lookup.{Key, name, number, sameBytes, sameInteger, equal, found, looked, Looked}
 
 -- a term that is there is read, and what is looked up in it goes by its tree
 module _ (t : Tree) (a : Laid t) (low : depth t ≤ 64) (short : length (bytes t) ≤ 16777215) where
@@ -80,6 +82,26 @@ big-one = row (small-big (1 ∷ []) 0 (1 ∷ []) (record { wide = refl; is = ref
 pub big-key : {r : Answer} → Looked (131 ∷ 116 ∷ 0 ∷ 0 ∷ 0 ∷ 1 ∷ 110 ∷ 1 ∷ 0 ∷ 1 ∷ 106 ∷ []) 1 64 (number (pos 1)) r → (r .number ≡ 16) × (r .offset ≡ 1)
 unfolding only bytes depth equal found looked
 big-key l = let e = by-tree (only _) (only-laid big-one) (omega arith) (omega arith) l in (ap (λ (x : Answer). x .number) e, ap (λ (x : Answer). x .offset) e)
+
+-- 131 116 0 0 0 1 119 2 97 98 106: the name 97 is Absent, at the map. A lookup that compares as many bytes as it is asked for finds it
+two-letters : Laid (leaf 119 (2 ∷ 97 ∷ 98 ∷ []))
+unfolding be scalar encode good.spelled
+two-letters =
+    let text : Utf8 (97 ∷ 98 ∷ []) = record { chars = 97 ∷ 98 ∷ []; scalars = good.more refl (good.more refl good.none); is = refl } in
+    row (small-atom (2 ∷ []) (97 ∷ 98 ∷ []) (record { wide = refl; is = refl }) text)
+
+pub longer-name : {r : Answer} → Looked (131 ∷ 116 ∷ 0 ∷ 0 ∷ 0 ∷ 1 ∷ 119 ∷ 2 ∷ 97 ∷ 98 ∷ 106 ∷ []) 1 64 (name (97 ∷ [])) r → (r .number ≡ 16) × (r .offset ≡ 1)
+unfolding only bytes depth sameBytes equal found looked
+longer-name l = let e = by-tree (only _) (only-laid two-letters) (omega arith) (omega arith) l in (ap (λ (x : Answer). x .number) e, ap (λ (x : Answer). x .offset) e)
+
+-- 131 116 0 0 0 1 107 0 1 97 106: the name 97 is Absent. A lookup that compares bytes whatever their tag finds it
+one-letter : Laid (leaf 107 (0 ∷ 1 ∷ 97 ∷ []))
+unfolding be
+one-letter = row (string (0 ∷ 1 ∷ []) (97 ∷ []) (record { wide = refl; is = refl }))
+
+pub string-key : {r : Answer} → Looked (131 ∷ 116 ∷ 0 ∷ 0 ∷ 0 ∷ 1 ∷ 107 ∷ 0 ∷ 1 ∷ 97 ∷ 106 ∷ []) 1 64 (name (97 ∷ [])) r → (r .number ≡ 16) × (r .offset ≡ 1)
+unfolding only bytes depth equal found looked
+string-key l = let e = by-tree (only _) (only-laid one-letter) (omega arith) (omega arith) l in (ap (λ (x : Answer). x .number) e, ap (λ (x : Answer). x .offset) e)
 
 -- 131 106: Kind, at the term, with its tag
 pub not-a-map : (k : Key) {r : Answer} → Looked (131 ∷ 106 ∷ []) 1 64 k r → (r .number ≡ 13) × (r .offset ≡ 1) × (r .extra ≡ 106)

@@ -1,15 +1,18 @@
--- What the promise of a lookup means: it leaves one answer, and what is found is the value of the last equal key. Assumes nothing.
-use Prim.Native.Nat.{ℕ, zero, suc, _+_, _*_}
+-- What the promise of a lookup means: it leaves one answer, whose path has 64 segments at most, and what is found is the value of the last
+-- equal key. Assumes nothing.
+use Prim.Native.Nat.{ℕ, zero, suc, _+_, _*_, _≤_}
 use native.Mathlib.Omega.{arith}
 use mathlib.Core.Path.{_≡_, refl, ap, sym, _∙_}
-use mathlib.Core.List.{List}
+use mathlib.Core.List.{List, []}
 use mathlib.Core.Bool.{Bool, true, false, cond}
 use lib.Dec.{eqb}
 use lib.ListN.{length}
 use borrow.Author.Tests.{eqb-true, eqb-false}
+use Rattle.rows.specs.Numbers as number
 use Rattle.terms.specs.declared.Answer.{Answer}
-use Rattle.terms.specs.Answer.{readAt}
-use Rattle.layouts.specs.Tree.{Forest, node, none, more, count, bytes, Stands}
+use Rattle.terms.specs.Answer.{refusal, readAt}
+use Rattle.terms.proofs.Bounds as bounds
+use Rattle.layouts.specs.Tree.{Tree, Forest, node, none, more, count, bytes, Stands}
 use Rattle.layouts.specs.Layout.{Laid}
 use Rattle.layouts.proofs.Accepts.{read-sound}
 use Rattle.lookup.specs.declared.Place.{Place}
@@ -27,6 +30,30 @@ one-answer {b} {at} {limit} {k} {r} {r'} l l' = go (eqb (readAt b at limit .numb
         let e = eqb-true (readAt b at limit .number) 0 h in
         let f = read-sound b at limit e in
         l .done e (f .tree) (f .laid) (f .stands) ∙ sym (l' .done e (f .tree) (f .laid) (f .stands))
+
+-- its path is the reading's, or empty
+pub few-segments : {b : List ℕ} {at limit : ℕ} {k : Key} {r : Answer} → Looked b at limit k r → r .len ≤ 64
+unfolding looked
+few-segments {b} {at} {limit} {k} {r} l = go (eqb (readAt b at limit .number) 0) refl
+  where
+    read : readAt b at limit .len ≤ 64
+    read = bounds.few-segments b at limit
+
+    tells : (map : Bool) (o : Place) (tag : ℕ) →
+        cond map (told at (readAt b at limit) o) (refusal number.Kind at tag (readAt b at limit .begun) (readAt b at limit .deepest) []) .len ≤ 64
+    tells true (place.At q) tag = read
+    tells true place.Nowhere tag = omega arith
+    tells false o tag = omega arith
+
+    looks : (t : Tree) → looked k at t (readAt b at limit) .len ≤ 64
+    looks (node tag front kids back) = tells (eqb tag 116) (found k (at + 1 + length front) kids) tag
+
+    go : (x : Bool) → eqb (readAt b at limit .number) 0 ≡ x → r .len ≤ 64
+    go false h = rw (l .refused (eqb-false (readAt b at limit .number) 0 h)) read
+    go true h =
+        let e = eqb-true (readAt b at limit .number) 0 h in
+        let f = read-sound b at limit e in
+        rw (l .done e (f .tree) (f .laid) (f .stands)) (looks (f .tree))
 
 module _ (k : Key) where
   -- what is found in m pairs is what the words say

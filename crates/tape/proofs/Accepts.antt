@@ -14,7 +14,8 @@ use Rattle.rows.specs.Numbers as number
 use Rattle.terms.specs.declared.Answer.{Answer}
 use Rattle.terms.specs.Answer.{refusal, before, readAt}
 use Rattle.terms.proofs.Bounds.{bounded}
-use Rattle.layouts.specs.Tree.{Tree, Stands, bytes, size}
+use Rattle.terms.proofs.Bounds as bounds
+use Rattle.layouts.specs.Tree.{Tree, Stands, bytes, size, depth}
 use Rattle.layouts.proofs.Accepts.{read-sound, read-complete}
 use Rattle.tape.specs.Cells.{cellWords, words, taped}
 use Rattle.tape.specs.Read.{judged, wholeFrom, readAll, Left, Accepted}
@@ -93,22 +94,36 @@ module _ (b : List ℕ) (limit room : ℕ) where
   unfolding sound
   begun-is e = let r = reads e in ap (λ (a : Answer). a .begun) (r .is) ∙ read-sound b 1 limit (r .done) .counted
 
-  -- no answer reports more terms than bytes behind the first
-  few : readAll b limit room .begun ≤ length b - 1
+  pub deepest-is : (e : readAll b limit room .number ≡ 0) → readAll b limit room .deepest ≡ depth (sound e .tree)
+  unfolding sound
+  deepest-is e = let r = reads e in ap (λ (a : Answer). a .deepest) (r .is) ∙ read-sound b 1 limit (r .done) .nested
+
+  -- what every answer has: one before reading, the reading's, and a refusal behind it with its counts
+  answers : (P : Answer → Type 0) → ((n : ℕ) → P (before n)) → (¬ (length b ≡ 0) → P (readAt b 1 limit)) →
+      (¬ (length b ≡ 0) → (n o x : ℕ) → P (refusal n o x (readAt b 1 limit .begun) (readAt b 1 limit .deepest) [])) → P (readAll b limit room)
   unfolding readAll wholeFrom judged
-  few =
+  answers P h k l =
       let a = readAt b 1 limit in
-      picks (eqb limit 0 || ltb 64 limit) _ _ (λ _. omega arith) (λ _.
-      picks (ltb 16777216 (length b)) _ _ (λ _. omega arith) (λ _.
-      picks (eqb (length b) 0) _ _ (λ _. omega arith) (λ e.
-      let h = bounded b 1 limit (omega (arith, eqb-false (length b) 0 e)) .counted in
+      picks (eqb limit 0 || ltb 64 limit) _ _ (λ _. h _) (λ _.
+      picks (ltb 16777216 (length b)) _ _ (λ _. h _) (λ _.
+      picks (eqb (length b) 0) _ _ (λ _. h _) (λ e.
+      let i = eqb-false (length b) 0 e in
       picks (eqb (getD b 0 0) 131) _ _ (λ _.
       picks (eqb (a .number) 0) _ a (λ _.
-      picks (ltb (a .end) (length b)) _ _ (λ _. h) (λ _. picks (ltb room (cellWords * a .begun)) _ a (λ _. h) (λ _. h))) (λ _. h)) (λ _. omega arith))))
+      picks (ltb (a .end) (length b)) _ _ (λ _. l i _ _ _) (λ _. picks (ltb room (cellWords * a .begun)) _ a (λ _. l i _ _ _) (λ _. k i))) (λ _. k i)) (λ _. h _))))
     where
-      picks : (x : Bool) (r o : Answer) → (x ≡ true → r .begun ≤ length b - 1) → (x ≡ false → o .begun ≤ length b - 1) → cond x r o .begun ≤ length b - 1
+      picks : (x : Bool) (r o : Answer) → (x ≡ true → P r) → (x ≡ false → P o) → P (cond x r o)
       picks true r o h k = h refl
       picks false r o h k = k refl
+
+  -- none reports more terms than bytes behind the first, or has a path of more than 64 segments
+  few : readAll b limit room .begun ≤ length b - 1
+  few =
+      let h : ¬ (length b ≡ 0) → readAt b 1 limit .begun ≤ length b - 1 = λ e. bounded b 1 limit (omega (arith, e)) .counted in
+      answers (λ r. r .begun ≤ length b - 1) (λ n. omega arith) h (λ e n o x. h e)
+
+  short : readAll b limit room .len ≤ 64
+  short = answers (λ r. r .len ≤ 64) (λ n. omega arith) (λ e. bounds.few-segments b 1 limit) (λ e n o x. omega arith)
 
   -- "accepted exactly when it is byte 131 and one whole term"
   pub accepts : 1 ≤ limit → limit ≤ 64 → length b ≤ 16777216 → (readAll b limit room .number ≡ 0) ↔ Accepted b limit room
@@ -137,6 +152,10 @@ module _ {b : List ℕ} {limit : ℕ} {r : Answer} {old new : List ℕ} (p : Pro
   pub counted : r .begun ≤ length b - 1
   counted = rw (p .answered) (few b limit (length old))
 
+  -- "at most 64 segments"
+  pub few-segments : r .len ≤ 64
+  few-segments = rw (p .answered) (short b limit (length old))
+
   -- a refused read leaves the tape
   pub untouched : ¬ (r .number ≡ 0) → new ≡ old
   untouched h = p .left .refused h
@@ -157,6 +176,11 @@ module _ {b : List ℕ} {limit : ℕ} {r : Answer} {old new : List ℕ} (p : Pro
     pub cells : r .begun ≡ size (accepted .tree)
     unfolding accepted
     cells = ap (λ (a : Answer). a .begun) (p .answered) ∙ begun-is b limit (length old) is-done
+
+    -- the deepest nesting is the term's
+    pub deepest : r .deepest ≡ depth (accepted .tree)
+    unfolding accepted
+    deepest = ap (λ (a : Answer). a .deepest) (p .answered) ∙ deepest-is b limit (length old) is-done
 
     -- its words stand at the front
     pub front : Stands new 0 (words (accepted .tree) 1 0 0)

@@ -1,5 +1,8 @@
--- From one child to the next in the pass that writes the tape: all words from the start are what is written and the words of the rest.
--- Assumes nothing.
+-- The pass that writes the tape: what is owed at each place, and that each step of the loop owes the rest. Assumes nothing.
+--
+-- The terms that are open lie one in the other. The innermost, `up`, has children left; when those are written and its cell is closed, its
+-- parent is the innermost. So what is owed (`Owed`) says of the tape as it will be then that the parent's rest is owed on it, and of the
+-- tape as it will be when the root is closed that it is the one wanted. No step looks past the innermost term.
 use Prim.Native.Nat.{ℕ, suc, _+_, _-_, _*_, _≤_, _<_}
 use native.Mathlib.Omega.{arith}
 use mathlib.Core.Path.{_≡_, refl, ap, sym, _∙_}
@@ -8,14 +11,14 @@ use lib.ListN.{length, getD, length-append}
 use lib.Seq.{length-sets}
 use Rattle.layouts.specs.declared.Shape.{Shape}
 use Rattle.layouts.specs.Tree.{Tree, Forest, node, none, more, Stands, bytes, bytesAll, count, size, sizes}
-use Rattle.layouts.specs.Layout.{Laid, AllLaid, no-more, one-more}
-use Rattle.layouts.specs.Shape.{ends, shapeAt, shapeOf, shortAt}
+use Rattle.layouts.specs.Layout.{Laid, AllLaid, one-more}
+use Rattle.layouts.specs.Shape.{ends, shapeAt, shapeBy, shapeOf, shortAt}
 use Rattle.layouts.proofs.Stands.{left, right, byte, behind}
-use Rattle.layouts.proofs.Shapes.{shape-is, kids-laid, one-leaf, short-is}
-use Rattle.tape.specs.Cells.{cellWords, words, wordsAll}
-use Rattle.tape.specs.Fill.{opened, closed, lay, Good, Some, Written, Kids}
+use Rattle.layouts.proofs.Shapes.{by-tag, shape-is, kids-laid, one-leaf, short-is, unique}
+use Rattle.tape.specs.Cells.{cellWords, cell, words, wordsAll}
+use Rattle.tape.specs.Fill.{opened, closed, lay, Good, Filled}
 use Rattle.tape.proofs.Blocks.{words-length}
-use Rattle.tape.proofs.Stores.{sets-append, cell-closed, length-closed, length-opened, end-read}
+use Rattle.tape.proofs.Stores.{sets-append, cell-closed, length-closed, length-opened, end-read, size-read, parent-read, before-laid, written-over, closed-again}
 
 -- each term has a byte of its own
 
@@ -30,83 +33,207 @@ mutual
   sizes-bytes none = omega arith
   sizes-bytes (more t ts) = omega (arith, size-bytes t, sizes-bytes ts, length-append (bytes t) (bytesAll ts))
 
--- from one child to the next
+count-sizes : (ts : Forest) → count ts ≤ sizes ts
+unfolding count size
+count-sizes none = omega arith
+count-sizes (more (node tag front kids back) ts) = omega (arith, count-sizes ts)
 
--- whatever term stands at pos, its words are on the tape, and what is said of where reading went on is so
-pub record Stepped (b : List ℕ) (up pos cell : ℕ) (old : List ℕ) (pos' cell' : ℕ) (new : List ℕ) : Type 0 where
-  pub one : (x : Tree) → Laid x → Stands b pos (bytes x) → (pos' ≡ pos + length (bytes x)) × ((cell' ≡ cell + size x) × (new ≡ lay old cell (words x pos up cell)))
+size-own : (t : Tree) → 1 ≤ size t
+unfolding size
+size-own (node tag front kids back) = omega arith
 
--- of the trees ts, those from number i on are left: all words from the start are what is written and the words of the rest
-pub record Rest (b : List ℕ) (from n up : ℕ) (old : List ℕ) (i pos cell : ℕ) (new : List ℕ) (ts : Forest) : Type 0 where
-  pub kids : Forest
-  pub laid : AllLaid kids
-  pub counted : i + count kids ≡ n
-  pub stands : Stands b pos (bytesAll kids)
-  pub ends : pos + length (bytesAll kids) ≡ from + length (bytesAll ts)
-  pub cells : cell + sizes kids ≡ up + 1 + sizes ts
-  pub same : lay old (up + 1) (wordsAll ts from up (up + 1)) ≡ lay new cell (wordsAll kids pos up cell)
+-- what is owed
 
-pub record Going (b : List ℕ) (from n up : ℕ) (old : List ℕ) (i pos cell : ℕ) (new : List ℕ) : Type 0 where
-  pub kept : length new ≡ length old
-  pub rest : (ts : Forest) → AllLaid ts → count ts ≡ n → Stands b from (bytesAll ts) → Rest b from n up old i pos cell new ts
+module _ (tape : List ℕ) (up : ℕ) where
+  -- what an open cell holds: the bytes behind its children, its parent, and how many children that has left then
+  abbrev pub bytesBehind : ℕ
+  bytesBehind = getD tape (up * cellWords + 2) 0
 
-module _ {b : List ℕ} {from n up : ℕ} {old : List ℕ} where
-  pub starts : Going b from n up old 0 from (up + 1) old
-  starts = record {
-    kept = refl;
-    rest = λ ts l c s. record { kids = ts; laid = l; counted = omega arith; stands = s; ends = refl; cells = refl; same = refl };
-  }
+  abbrev pub outer : ℕ
+  outer = getD tape (up * cellWords + 3) 0
 
-  module _ {i pos cell pos' cell' : ℕ} {new new' : List ℕ} where
-    steps : {ts : Forest} → Stepped b up pos cell new pos' cell' new' → i < n → Rest b from n up old i pos cell new ts → Rest b from n up old (i + 1) pos' cell' new' ts
-    unfolding bytesAll count sizes wordsAll
-    steps {ts} s h r = go (r .kids) (r .laid) (r .counted) (r .stands) (r .ends) (r .cells) (r .same)
-      where
-        go : (ks : Forest) → AllLaid ks → i + count ks ≡ n → Stands b pos (bytesAll ks) → pos + length (bytesAll ks) ≡ from + length (bytesAll ts) → cell + sizes ks ≡ up + 1 + sizes ts →
-            lay old (up + 1) (wordsAll ts from up (up + 1)) ≡ lay new cell (wordsAll ks pos up cell) → Rest b from n up old (i + 1) pos' cell' new' ts
-        go none l c st e f g = absurd (omega arith)
-        go (more x ks) (one-more lx l) c st e f g =
-            let (a, (d, w)) = s .one x lx (left b pos (bytes x) (bytesAll ks) st) in
-            let q : cell * cellWords + length (words x pos up cell) ≡ (cell + size x) * cellWords = omega (arith, words-length x pos up cell) in
-            record {
-              kids = ks;
-              laid = l;
-              counted = omega arith;
-              stands = rw a (right b pos (bytes x) (bytesAll ks) st);
-              ends = omega (arith, length-append (bytes x) (bytesAll ks));
-              cells = omega arith;
-              same =
-                  g ∙ sets-append new (cell * cellWords) (words x pos up cell) (wordsAll ks (pos + length (bytes x)) up (cell + size x))
-                  ∙ rw (a, d, w, q);
-            }
+  abbrev pub rest : ℕ
+  rest = getD tape (up * cellWords + 4) 0
 
-    pub goes-on : Stepped b up pos cell new pos' cell' new' → i < n → length new' ≡ length new → Going b from n up old i pos cell new → Going b from n up old (i + 1) pos' cell' new'
-    goes-on s h k g = record { kept = k ∙ g .kept; rest = λ ts l c w. steps s h (g .rest ts l c w) }
+  -- where it ends, and the tape when it is closed, if its children from here on are ks
+  abbrev pub endOf : ℕ → Forest → ℕ
+  endOf pos ks = pos + length (bytesAll ks) + bytesBehind
 
-  -- behind the last child
-  pub stops : {i pos cell m : ℕ} {new : List ℕ} → n ≤ i → Going b from n up old i pos cell new → Kids b from n m up old cell (closed new up (pos + m) (cell - up))
+  abbrev pub tapeOf : ℕ → ℕ → Forest → List ℕ
+  tapeOf pos cell ks = closed (lay tape cell (wordsAll ks pos up cell)) up (endOf pos ks) (cell + sizes ks - up)
+
+-- the children that are left stand here, with room for their cells
+pub record Here (b : List ℕ) (up n pos cell : ℕ) (tape : List ℕ) (ks : Forest) : Type 0 where
+  pub laid : AllLaid ks
+  pub counted : count ks ≡ n
+  pub stands : Stands b pos (bytesAll ks)
+  pub inside : endOf tape up pos ks ≤ length b
+  pub fits : (cell + sizes ks) * cellWords ≤ length tape
+  pub below : up < cell
+  pub later : cell ≤ pos
+
+pub data Owed (b final : List ℕ) : (up n pos cell : ℕ) → (tape : List ℕ) → Type 0 where
+  owed : {up n pos cell : ℕ} {tape : List ℕ} (ks : Forest) → Here b up n pos cell tape ks →
+      (up ≡ 0 → tapeOf tape up pos cell ks ≡ final) →
+      (¬ (up ≡ 0) → outer tape up < up) →
+      (¬ (up ≡ 0) → Owed b final (outer tape up) (rest tape up) (endOf tape up pos ks) (cell + sizes ks) (tapeOf tape up pos cell ks)) →
+      Owed b final up n pos cell tape
+
+-- where the innermost term stands
+pub record Top (b : List ℕ) (up pos cell : ℕ) (tape : List ℕ) : Type 0 where
+  pub short : length b ≤ 16777216
+  pub below : up < cell
+  pub later : cell ≤ pos
+  pub fits : cell * cellWords ≤ length tape
+  pub inside : pos + bytesBehind tape up ≤ length b
+
+-- a child is left: it stands here, and when its words are written the rest is owed
+pub record Child (b final : List ℕ) (up n pos cell : ℕ) (tape : List ℕ) : Type 0 where
+  pub tree : Tree
+  pub laid : Laid tree
+  pub stands : Stands b pos (bytes tree)
+  pub short : length b ≤ 16777216
+  pub some : pos < length b
+  pub few : n ≤ length b
+  pub fits : (cell + size tree) * cellWords ≤ length tape
+  pub room : cell * cellWords + 5 ≤ length tape
+  pub below : up < cell
+  pub later : cell ≤ pos
+  pub next : Owed b final up (n - 1) (pos + length (bytes tree)) (cell + size tree) (lay tape cell (words tree pos up cell))
+
+-- what the bytes of a child say of it
+pub record Shaped (b : List ℕ) (pos : ℕ) (g : Shape) : Type 0 where
+  pub after : pos < g .from
+  pub inside : g .from + g .more ≤ length b
+
+module _ {b final : List ℕ} where
+  -- the same, written another way
+  moved : {u u' l l' p p' c c' : ℕ} {t t' : List ℕ} → u ≡ u' → l ≡ l' → p ≡ p' → c ≡ c' → t ≡ t' → Owed b final u l p c t → Owed b final u' l' p' c' t'
+  moved e f g h i o = rw (sym e, sym f, sym g, sym h, sym i) o
+
+  pub top : {up n pos cell : ℕ} {tape : List ℕ} → length b ≤ 16777216 → Owed b final up n pos cell tape → Top b up pos cell tape
+  top s (owed ks h l o t) = record { short = s; below = h .below; later = h .later; fits = omega (arith, h .fits); inside = omega (arith, h .inside) }
+
+  -- no child is left: the root is done, and any other gives way to its parent
+  pub done : {up n pos cell : ℕ} {tape : List ℕ} → Owed b final up n pos cell tape → up ≡ 0 → n ≡ 0 → closed tape up (pos + bytesBehind tape up) (cell - up) ≡ final
   unfolding bytesAll count sizes wordsAll
-  stops {i} {pos} {cell} {m} {new} h g = record {
-    kept = length-closed new up (pos + m) (cell - up) ∙ g .kept;
-    written = λ ts l c s. last ts (g .rest ts l c s);
-  }
-    where
-      last : (ts : Forest) → Rest b from n up old i pos cell new ts → Written from m up old ts cell (closed new up (pos + m) (cell - up))
-      last ts r = go (r .kids) (r .counted) (r .ends) (r .cells) (r .same)
-        where
-          go : (ks : Forest) → i + count ks ≡ n → pos + length (bytesAll ks) ≡ from + length (bytesAll ts) → cell + sizes ks ≡ up + 1 + sizes ts →
-              lay old (up + 1) (wordsAll ts from up (up + 1)) ≡ lay new cell (wordsAll ks pos up cell) → Written from m up old ts cell (closed new up (pos + m) (cell - up))
-          go (more x ks) c e f s = absurd (omega arith)
-          go none c e f s =
-              let a : from + length (bytesAll ts) + m ≡ pos + m = omega arith in
-              let d : suc (sizes ts) ≡ cell - up = omega arith in
-              record { behind = omega arith; same = rw (s, a, d) }
+  done (owed (more x ks) h l d t) u z = absurd (omega (arith, h .counted))
+  done {up} {n} {pos} {cell} {tape} (owed none h l d t) u z =
+      let e : pos + bytesBehind tape up ≡ endOf tape up pos none = omega arith in
+      let c : cell - up ≡ cell + 0 - up = omega arith in
+      rw (e, c) (l u)
 
--- the two ways of a child
+  pub shut : {up n pos cell : ℕ} {tape : List ℕ} → Owed b final up n pos cell tape → n ≡ 0 → ¬ (up ≡ 0) →
+      (outer tape up < up) × Owed b final (outer tape up) (rest tape up) (pos + bytesBehind tape up) cell (closed tape up (pos + bytesBehind tape up) (cell - up))
+  unfolding bytesAll count sizes wordsAll
+  shut (owed (more x ks) h l d t) z u = absurd (omega (arith, h .counted))
+  shut {up} {n} {pos} {cell} {tape} (owed none h l d t) z u =
+      let e : endOf tape up pos none ≡ pos + bytesBehind tape up = omega arith in
+      let c : cell + 0 ≡ cell = omega arith in
+      let k : cell + 0 - up ≡ cell - up = omega arith in
+      let w : tapeOf tape up pos cell none ≡ closed tape up (pos + bytesBehind tape up) (cell - up) = rw (e, k) in
+      (d u, moved refl refl e c w (t u))
+
+  pub child : {up n pos cell : ℕ} {tape : List ℕ} → length b ≤ 16777216 → Owed b final up n pos cell tape → ¬ (n ≡ 0) → Child b final up n pos cell tape
+  unfolding bytesAll count sizes wordsAll
+  child s (owed none h l d t) z = absurd (z (sym (h .counted)))
+  child {up} {n} {pos} {cell} {tape} s (owed (more x ks) h l d t) z = go (h .laid)
+    where
+      go : AllLaid (more x ks) → Child b final up n pos cell tape
+      go (one-more lx lks) =
+          let ws = words x pos up cell in
+          let new = lay tape cell ws in
+          let pos' : ℕ = pos + length (bytes x) in
+          let cell' : ℕ = cell + size x in
+          let rs = wordsAll ks pos' up cell' in
+          let len = length-append (bytes x) (bytesAll ks) in
+          let own = size-own x in
+          let below = h .below in
+          let m : bytesBehind new up ≡ bytesBehind tape up = before-laid tape (cell * cellWords) ws (up * cellWords + 2) (omega arith) in
+          let o : outer new up ≡ outer tape up = before-laid tape (cell * cellWords) ws (up * cellWords + 3) (omega arith) in
+          let r : rest new up ≡ rest tape up = before-laid tape (cell * cellWords) ws (up * cellWords + 4) (omega arith) in
+          let e : endOf tape up pos (more x ks) ≡ endOf new up pos' ks = omega (arith, len, m) in
+          let c : cell + (size x + sizes ks) ≡ cell' + sizes ks = omega arith in
+          let i : cell * cellWords + length ws ≡ cell' * cellWords = omega (arith, words-length x pos up cell) in
+          let w : tapeOf tape up pos cell (more x ks) ≡ tapeOf new up pos' cell' ks =
+          ap (λ (y : List ℕ). closed y up (endOf tape up pos (more x ks)) (cell + (size x + sizes ks) - up)) (sets-append tape (cell * cellWords) ws rs)
+          ∙ rw (i, e, c) in
+          record {
+            tree = x;
+            laid = lx;
+            stands = left b pos (bytes x) (bytesAll ks) (h .stands);
+            short = s;
+            some = omega (arith, h .inside, len, size-bytes x);
+            few = omega (arith, h .counted, h .inside, count-sizes ks, sizes-bytes ks, len, size-bytes x);
+            fits = omega (arith, h .fits);
+            room = omega (arith, h .fits);
+            below = below;
+            later = h .later;
+            next =
+                owed {up = up} {n = n - 1} {pos = pos'} {cell = cell'} {tape = new} ks
+                (record {
+                  laid = lks;
+                  counted = omega (arith, h .counted);
+                  stands = right b pos (bytes x) (bytesAll ks) (h .stands);
+                  inside = omega (arith, h .inside, len, m);
+                  fits = omega (arith, h .fits, length-sets tape (cell * cellWords) ws);
+                  below = omega arith;
+                  later = omega (arith, h .later, size-bytes x);
+                })
+                (λ u. sym w ∙ l u)
+                (λ u. rw o (d u))
+                (λ u. moved (sym o) (sym r) e c w (t u));
+          }
+
+  -- a term's cell while it is open: its children are owed, and behind them what its parent has left
+  module _ {up pos cell n : ℕ} {mid new : List ℕ} {g : Shape} (tape : List ℕ) (h : length b ≤ 16777216) where
+    pub begins : (x : Tree) → Laid x → Stands b pos (bytes x) → (cell + size x) * cellWords ≤ length tape → cell ≤ pos →
+        g ≡ shapeAt b pos → mid ≡ opened tape cell (getD b pos 0) pos up → new ≡ closed mid cell (g .more) n →
+        (cell ≡ 0 → lay tape cell (words x pos up cell) ≡ final) →
+        (¬ (cell ≡ 0) → up < cell) →
+        (¬ (cell ≡ 0) → Owed b final up n (pos + length (bytes x)) (cell + size x) (lay tape cell (words x pos up cell))) →
+        Owed b final cell (g .kids) (g .from) (cell + 1) new
+    unfolding bytes size words
+    begins (node tag front ks back) l s f k e o v at-root below inside =
+        let x = node tag front ks back in
+        let q : g ≡ shapeOf x pos = e ∙ shape-is b pos x h l s in
+        let from : ℕ = pos + 1 + length front in
+        let now = closed (opened tape cell tag pos up) cell (length back) n in
+        let d : now ≡ new = sym (v ∙ rw (o, byte b pos tag _ s, q)) in
+        let len = length-append front (bytesAll ks ++ back) in
+        let len' = length-append (bytesAll ks) back in
+        let open-length = length-opened tape cell tag pos up in
+        let i = s .inside in
+        let m : bytesBehind now cell ≡ length back = end-read (opened tape cell tag pos up) cell (length back) n (omega arith) in
+        let u : outer now cell ≡ up = parent-read tape cell tag pos up (length back) n (omega arith) in
+        let r : rest now cell ≡ n = size-read (opened tape cell tag pos up) cell (length back) n (omega arith) in
+        let ws = wordsAll ks from cell (cell + 1) in
+        let p : endOf now cell from ks ≡ pos + length (bytes x) = omega (arith, m, len, len') in
+        let c : cell + 1 + sizes ks ≡ cell + size x = omega arith in
+        let z : cell + 1 + sizes ks - cell ≡ suc (sizes ks) = omega arith in
+        let w : tapeOf now cell from (cell + 1) ks ≡ lay tape cell (words x pos up cell) =
+        closed-again (opened tape cell tag pos up) cell (length back) n ws _ _ ∙ rw (p, z) (cell-closed tape cell tag pos (pos + length (bytes x)) up (suc (sizes ks)) ws) in
+        let here : Here b cell (count ks) from (cell + 1) now ks =
+        record {
+          laid = kids-laid l;
+          counted = refl;
+          stands = left b from (bytesAll ks) back (right b (pos + 1) front (bytesAll ks ++ back) (behind b pos tag (front ++ (bytesAll ks ++ back)) s));
+          inside = omega (arith, p);
+          fits = omega (arith, length-closed (opened tape cell tag pos up) cell (length back) n);
+          below = omega arith;
+          later = omega arith;
+        } in
+        moved refl (sym (ap (λ (y : Shape). y .kids) q)) (sym (ap (λ (y : Shape). y .from) q)) refl d
+        (owed ks here (λ y. w ∙ at-root y) (λ y. rw u (below y)) (λ y. moved (sym u) (sym r) (sym p) (sym c) (sym w) (inside y)))
 
 -- the short way tells the shape
 pub short-shape : (b : List ℕ) (pos : ℕ) {r : ℕ} → r ≡ shortAt b pos → ¬ (r ≡ 0) → ends r ≡ shapeAt b pos
 short-shape b pos {r} e h = ap ends e ∙ sym (short-is b pos (λ z. h (e ∙ z)))
+
+-- and so does the tag of a small integer
+pub small-shape : (b : List ℕ) (pos : ℕ) → pos < length b → length b ≤ 16777216 → getD b pos 0 ≡ 97 → ends (pos + 2) ≡ shapeAt b pos
+unfolding shapeBy
+small-shape b pos h l e = by-tag b pos 97 h l e
 
 -- no children, no bytes behind them
 bare : {tag : ℕ} {front back : List ℕ} → Laid (node tag front none back) → back ≡ []
@@ -114,127 +241,97 @@ unfolding count
 bare {back = []} l = refl
 bare {back = x ∷ k} l = absurd (omega (arith, ap count (one-leaf l (λ e. omega (arith, ap (length {A = ℕ}) e)) .is)))
 
-module _ (b : List ℕ) (up pos cell : ℕ) (tape : List ℕ) (h : length b ≤ 16777216) where
-  -- a child without children
-  pub leaf-steps : {g : Shape} {mid new : List ℕ} → g ≡ shapeAt b pos → g .kids ≡ 0 → mid ≡ opened tape cell (getD b pos 0) pos up → new ≡ closed mid cell (g .from) 1 →
-      Stepped b up pos cell tape (g .from) (cell + 1) new
+-- what the bytes of a term say of it
+pub shaped : {b : List ℕ} {pos : ℕ} {g : Shape} → length b ≤ 16777216 → (t : Tree) → Laid t → Stands b pos (bytes t) → g ≡ shapeAt b pos → Shaped b pos g
+unfolding bytes
+shaped {b} {pos} {g} h (node tag front ks back) l s e =
+    let q : g ≡ shapeOf (node tag front ks back) pos = e ∙ shape-is b pos (node tag front ks back) h l s in
+    let i = s .inside in
+    rw q (record { after = omega arith; inside = omega (arith, length-append front (bytesAll ks ++ back), length-append (bytesAll ks) back) })
+
+-- the loop: the tape that is wanted is what is owed
+
+pub record Going (b old : List ℕ) (up n pos cell : ℕ) (tape : List ℕ) : Type 0 where
+  pub short : length b ≤ 16777216
+  pub kept : length tape ≡ length old
+  pub final : List ℕ
+  pub is : Filled b old final
+  pub owes : Owed b final up n pos cell tape
+
+pub there : {b : List ℕ} {room : ℕ} → Good b room → (1 < length b) × (5 ≤ room)
+there q = (omega (arith, q .stands .inside, size-bytes (q .tree), size-own (q .tree)), omega (arith, q .fits, size-own (q .tree)))
+
+-- the root's cell is open: the words that are wanted lie over it, so that they are the same on the tape as it was
+module _ {b mid tape : List ℕ} {g : Shape} (old : List ℕ) (q : Good b (length old)) (e : g ≡ shapeAt b 1) (o : mid ≡ opened old 0 (getD b 1 0) 1 0) (v : tape ≡ closed mid 0 (g .more) 0) where
+  over : (t : Tree) → lay tape 0 (words t 1 0 0) ≡ lay old 0 (words t 1 0 0)
+  over t =
+      let root = cell (getD b 1 0) 1 (g .more) 0 0 in
+      let w : tape ≡ lay old 0 root = v ∙ rw o (cell-closed old 0 (getD b 1 0) 1 (g .more) 0 0 []) in
+      let ws = words t 1 0 0 in
+      ap (λ (z : List ℕ). lay z 0 ws) w ∙ written-over old 0 root ws (omega (arith, words-length t 1 0 0, size-own t))
+
+  pub as-it-was : {new : List ℕ} → Filled b tape new → Filled b old new
+  as-it-was f = record { same = λ t l s. f .same t l s ∙ over t }
+
+  -- one term stands there, so its words are those of any
+  pub starts : Going b tape 0 (g .kids) (g .from) 1 tape
+  starts =
+      record {
+        short = q .short;
+        kept = refl;
+        final = lay tape 0 (words (q .tree) 1 0 0);
+        is = record { same = λ t l s. ap (λ (x : Tree). lay tape 0 (words x 1 0 0)) (unique b 1 (q .tree) t (q .short) (q .laid) l (q .stands) s) };
+        owes =
+            begins {up = 0} {n = 0} old (q .short) (q .tree) (q .laid) (q .stands) (omega (arith, q .fits)) (omega arith) e o v
+            (λ _. sym (over (q .tree))) (λ z. absurd (z refl)) (λ z. absurd (z refl));
+      }
+
+module _ {b old : List ℕ} {up n pos cell : ℕ} {tape : List ℕ} (g : Going b old up n pos cell tape) where
+  pub here : Top b up pos cell tape
+  here = top (g .short) (g .owes)
+
+  pub first : ¬ (n ≡ 0) → Child b (g .final) up n pos cell tape
+  first z = child (g .short) (g .owes) z
+
+module _ {b old : List ℕ} {up n pos cell : ℕ} {tape new : List ℕ} (g : Going b old up n pos cell tape) where
+  -- a child without children is written
+  pub past : {e : ℕ} → ¬ (n ≡ 0) → ends e ≡ shapeAt b pos → new ≡ closed (opened tape cell (getD b pos 0) pos up) cell e 1 → length new ≡ length tape →
+      Going b old up (n - 1) e (cell + 1) new
   unfolding bytes size count words
-  leaf-steps {g} {mid} {new} e z o n = record { one = go }
+  past {e} z f v k =
+      let x = first g z in
+      record { short = g .short; kept = k ∙ g .kept; final = g .final; is = g .is; owes = go (x .tree) (x .laid) (x .stands) (x .next) }
     where
-      go : (x : Tree) → Laid x → Stands b pos (bytes x) → (g .from ≡ pos + length (bytes x)) × ((cell + 1 ≡ cell + size x) × (new ≡ lay tape cell (words x pos up cell)))
-      go (node tag front none back) l s =
-          let q : g ≡ shapeOf (node tag front none back) pos = e ∙ shape-is b pos (node tag front none back) h l s in
-          let k = bare l in
-          let f : g .from ≡ pos + length (bytes (node tag front none back)) = ap (λ (y : Shape). y .from) q ∙ rw (k, append-nil front) (omega arith) in
-          (f, (omega arith, n ∙ rw (o, f, byte b pos tag _ s) (cell-closed tape cell tag pos _ up 1 [])))
-      go (node tag front (more t ts) back) l s =
-          let q : g ≡ shapeOf (node tag front (more t ts) back) pos = e ∙ shape-is b pos (node tag front (more t ts) back) h l s in
+      go : (t : Tree) → Laid t → Stands b pos (bytes t) → Owed b (g .final) up (n - 1) (pos + length (bytes t)) (cell + size t) (lay tape cell (words t pos up cell)) →
+          Owed b (g .final) up (n - 1) e (cell + 1) new
+      go (node tag front (more t ts) back) l s o =
+          let q : ends e ≡ shapeOf (node tag front (more t ts) back) pos = f ∙ shape-is b pos (node tag front (more t ts) back) (g .short) l s in
           absurd (omega (arith, ap (λ (y : Shape). y .kids) q))
+      go (node tag front none back) l s o =
+          let q : ends e ≡ shapeOf (node tag front none back) pos = f ∙ shape-is b pos (node tag front none back) (g .short) l s in
+          let p : e ≡ pos + length (bytes (node tag front none back)) = ap (λ (y : Shape). y .from) q ∙ rw (bare l, append-nil front) (omega arith) in
+          let w : new ≡ lay tape cell (words (node tag front none back) pos up cell) = v ∙ rw (p, byte b pos tag _ s) (cell-closed tape cell tag pos _ up 1 []) in
+          moved refl refl (sym p) (omega arith) (sym w) o
 
-  -- and any other
-  pub kids-steps : {g : Shape} {next : ℕ} {mid new : List ℕ} → g ≡ shapeAt b pos → cell * cellWords + 5 ≤ length tape → mid ≡ opened tape cell (getD b pos 0) pos up →
-      Kids b (g .from) (g .kids) (g .more) cell mid next new →
-      Stepped b up pos cell tape (getD new (cell * cellWords + 2) 0) next new
-  unfolding bytes size words
-  kids-steps {g} {next} {mid} {new} e f o k = record { one = go }
-    where
-      go : (x : Tree) → Laid x → Stands b pos (bytes x) → (getD new (cell * cellWords + 2) 0 ≡ pos + length (bytes x)) × ((next ≡ cell + size x) × (new ≡ lay tape cell (words x pos up cell)))
-      go (node tag front ts back) l s =
-          let x = node tag front ts back in
-          let q : g ≡ shapeOf x pos = e ∙ shape-is b pos x h l s in
-          let r = right b (pos + 1) front (bytesAll ts ++ back) (behind b pos tag (front ++ (bytesAll ts ++ back)) s) in
-          let w = (rw q at (k .written)) ts (kids-laid l) refl (left b (pos + 1 + length front) (bytesAll ts) back r) in
-          let d : pos + 1 + length front + length (bytesAll ts) + length back ≡ pos + length (bytes x) =
-          omega (arith, length-append front (bytesAll ts ++ back), length-append (bytesAll ts) back) in
-          let ws = wordsAll ts (pos + 1 + length front) cell (cell + 1) in
-          let m : cell * cellWords + 5 ≤ length (lay (opened tape cell tag pos up) (cell + 1) ws) =
-          omega (arith, length-sets (opened tape cell tag pos up) ((cell + 1) * cellWords) ws, length-opened tape cell tag pos up) in
-          let n : new ≡ closed (lay (opened tape cell tag pos up) (cell + 1) ws) cell (pos + length (bytes x)) (suc (sizes ts)) =
-          w .same ∙ rw (o, d, byte b pos tag _ s) in
-          let i = ap (λ (z : List ℕ). getD z (cell * cellWords + 2) 0) n ∙ end-read (lay (opened tape cell tag pos up) (cell + 1) ws) cell _ _ m in
-          (i, (omega (arith, w .behind), n ∙ cell-closed tape cell tag pos (pos + length (bytes x)) up (suc (sizes ts)) ws))
+  -- the cell of any other is open
+  pub into : {mid : List ℕ} {s : Shape} → ¬ (n ≡ 0) → s ≡ shapeAt b pos → mid ≡ opened tape cell (getD b pos 0) pos up → new ≡ closed mid cell (s .more) (n - 1) → length new ≡ length tape →
+      Going b old cell (s .kids) (s .from) (cell + 1) new
+  into z e o v k =
+      let x = first g z in
+      record {
+        short = g .short;
+        kept = k ∙ g .kept;
+        final = g .final;
+        is = g .is;
+        owes = begins tape (g .short) (x .tree) (x .laid) (x .stands) (x .fits) (x .later) e o v (λ y. absurd (omega (arith, x .below))) (λ _. x .below) (λ _. x .next);
+      }
 
--- what is left of the children
+  -- a term whose children are written is closed
+  module _ (v : new ≡ closed tape up (pos + bytesBehind tape up) (cell - up)) (z : n ≡ 0) where
+    pub out : ¬ (up ≡ 0) → length new ≡ length tape → (outer tape up < up) × Going b old (outer tape up) (rest tape up) (pos + bytesBehind tape up) cell new
+    out u k =
+        let (a, o) = shut (g .owes) z u in
+        (a, record { short = g .short; kept = k ∙ g .kept; final = g .final; is = g .is; owes = moved refl refl refl refl (sym v) o })
 
--- the first of them: where it stands, its cell, and its own children
-pub record First (b : List ℕ) (pos cell room : ℕ) (g : Shape) : Type 0 where
-  pub inside : pos < length b
-  pub later : cell ≤ pos
-  pub fits : cell * cellWords + 5 ≤ room
-  pub after : pos < g .from
-  pub child : Some b (g .from) (g .kids) (g .more) (cell + 1) room
-
-module _ {b : List ℕ} {n i pos cell m room : ℕ} where
-  pub first : {g : Shape} → g ≡ shapeAt b pos → i < n → Some b pos (n - i) m cell room → First b pos cell room g
-  unfolding bytes size count
-  first {g} e h s = go (s .kids) (s .laid) (s .counted) (s .stands) (s .behind) (s .fits)
-    where
-      go : (ts : Forest) → AllLaid ts → count ts ≡ n - i → Stands b pos (bytesAll ts) → pos + length (bytesAll ts) + m ≤ length b → (cell + sizes ts) * cellWords ≤ room → First b pos cell room g
-      go none l c st f r = absurd (omega arith)
-      go (more (node tag front ks back) ts) (one-more lx l) c st f r =
-          let x = node tag front ks back in
-          let sx = left b pos (bytes x) (bytesAll ts) st in
-          let q : g ≡ shapeOf x pos = e ∙ shape-is b pos x (s .short) lx sx in
-          let k = right b (pos + 1) front (bytesAll ks ++ back) (behind b pos tag (front ++ (bytesAll ks ++ back)) sx) in
-          let i = sx .inside in
-          rw q (record {
-            inside = omega arith;
-            later = s .later;
-            fits = omega arith;
-            after = omega arith;
-            child = record {
-              short = s .short;
-              kids = ks;
-              laid = kids-laid lx;
-              counted = refl;
-              stands = left b (pos + 1 + length front) (bytesAll ks) back k;
-              behind = omega (arith, length-append front (bytesAll ks ++ back), length-append (bytesAll ks) back);
-              fits = omega arith;
-              later = omega (arith, s .later);
-            };
-          })
-
-  pub next : {up pos' cell' : ℕ} {old new : List ℕ} → Stepped b up pos cell old pos' cell' new → i < n → Some b pos (n - i) m cell room → Some b pos' (n - (i + 1)) m cell' room
-  unfolding bytesAll size count
-  next {up} {pos'} {cell'} {old} {new} w h s = go (s .kids) (s .laid) (s .counted) (s .stands) (s .behind) (s .fits)
-    where
-      go : (ts : Forest) → AllLaid ts → count ts ≡ n - i → Stands b pos (bytesAll ts) → pos + length (bytesAll ts) + m ≤ length b → (cell + sizes ts) * cellWords ≤ room → Some b pos' (n - (i + 1)) m cell' room
-      go none l c st f r = absurd (omega arith)
-      go (more x ts) (one-more lx l) c st f r =
-          let (a, (d, _)) = w .one x lx (left b pos (bytes x) (bytesAll ts) st) in
-          let len = length-append (bytes x) (bytesAll ts) in
-          record {
-            short = s .short;
-            kids = ts;
-            laid = l;
-            counted = omega arith;
-            stands = rw a (right b pos (bytes x) (bytesAll ts) st);
-            behind = omega (arith, len);
-            fits = omega arith;
-            later = omega (arith, s .later, size-bytes x);
-          }
-
-  -- it has a byte and a cell of its own
-  pub further : {up pos' cell' : ℕ} {old new : List ℕ} → Stepped b up pos cell old pos' cell' new → i < n → Some b pos (n - i) m cell room → (pos < pos') × (cell < cell')
-  unfolding bytes size count
-  further {up} {pos'} {cell'} w h s = go (s .kids) (s .laid) (s .counted) (s .stands)
-    where
-      go : (ts : Forest) → AllLaid ts → count ts ≡ n - i → Stands b pos (bytesAll ts) → (pos < pos') × (cell < cell')
-      go none l c st = absurd (omega arith)
-      go (more (node tag front ks back) ts) (one-more lx l) c st =
-          let (a, (d, _)) = w .one (node tag front ks back) lx (left b pos (bytes (node tag front ks back)) (bytesAll ts) st) in
-          (omega arith, omega arith)
-
--- the root, as the one child of nothing
-pub alone : {b : List ℕ} {room : ℕ} → Good b room → Some b 1 1 0 0 room
-unfolding bytes size count
-alone {b} g = record {
-  short = g .short;
-  kids = more (g .tree) none;
-  laid = one-more (g .laid) no-more;
-  counted = refl;
-  stands = rw (append-nil (bytes (g .tree))) (g .stands);
-  behind = rw (append-nil (bytes (g .tree))) (omega (arith, g .stands .inside));
-  fits = omega (arith, g .fits);
-  later = omega arith;
-}
+    pub whole : up ≡ 0 → Filled b old new
+    whole u = rw (v ∙ done (g .owes) u z) (g .is)

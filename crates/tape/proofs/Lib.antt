@@ -5,3 +5,4 @@ pub mod Filling
 pub mod Reading
 pub mod Accepts
 pub mod Examples
+pub mod Room

@@ -5,7 +5,7 @@ use native.Mathlib.Omega.{arith}
 use mathlib.Core.Path.{_≡_, refl, ap, sym, _∙_}
 use mathlib.Core.List.{List, [], _∷_, _++_}
 use lib.ListN.{length, getD, set, length-set}
-use lib.Seq.{sets, set-comm, getD-set-same, getD-set-other}
+use lib.Seq.{sets, set-comm, set-set, getD-set-same, getD-set-other}
 use Rattle.tape.specs.Cells.{cellWords, cell}
 use Rattle.tape.specs.Fill.{opened, closed, lay}
 
@@ -47,11 +47,48 @@ length-closed tape c e n = length-set (set tape (c * cellWords + 2) e) (c * cell
 pub length-opened : (tape : List ℕ) (c tag p up : ℕ) → length (opened tape c tag p up) ≡ length tape
 length-opened tape c tag p up = simp length-set
 
--- the end that a closed cell has, read back
+-- what a cell holds while it is open, read back: the words that closing it stores, and its parent
 pub end-read : (tape : List ℕ) (c e n : ℕ) → c * cellWords + 5 ≤ length tape → getD (closed tape c e n) (c * cellWords + 2) 0 ≡ e
 end-read tape c e n h =
     getD-set-other (set tape (c * cellWords + 2) e) (c * cellWords + 4) (c * cellWords + 2) n 0 (λ k. omega arith)
     ∙ getD-set-same tape (c * cellWords + 2) e 0 (omega arith)
+
+pub size-read : (tape : List ℕ) (c e n : ℕ) → c * cellWords + 5 ≤ length tape → getD (closed tape c e n) (c * cellWords + 4) 0 ≡ n
+size-read tape c e n h = getD-set-same (set tape (c * cellWords + 2) e) (c * cellWords + 4) n 0 (omega (arith, length-set tape (c * cellWords + 2) e))
+
+pub parent-read : (tape : List ℕ) (c tag p up e n : ℕ) → c * cellWords + 5 ≤ length tape → getD (closed (opened tape c tag p up) c e n) (c * cellWords + 3) 0 ≡ up
+parent-read tape c tag p up e n h =
+    let z = set (set tape (c * cellWords) tag) (c * cellWords + 1) p in
+    let l : length z ≡ length tape = length-set (set tape (c * cellWords) tag) (c * cellWords + 1) p ∙ length-set tape (c * cellWords) tag in
+    getD-set-other (set (opened tape c tag p up) (c * cellWords + 2) e) (c * cellWords + 4) (c * cellWords + 3) n 0 (λ k. omega arith)
+    ∙ getD-set-other (opened tape c tag p up) (c * cellWords + 2) (c * cellWords + 3) e 0 (λ k. omega arith)
+    ∙ getD-set-same z (c * cellWords + 3) up 0 (omega (arith, l))
+
+-- words before those that are written stay
+pub before-laid : (tape : List ℕ) (i : ℕ) (ws : List ℕ) (j : ℕ) → j < i → getD (sets tape i ws) j 0 ≡ getD tape j 0
+before-laid tape i [] j h = refl
+before-laid tape i (w ∷ ws) j h = before-laid (set tape i w) (suc i) ws j (omega arith) ∙ getD-set-other tape i j w 0 (λ e. omega arith)
+
+-- as many words as were written, or more, written over them
+pub written-over : (tape : List ℕ) (i : ℕ) (xs ys : List ℕ) → length xs ≤ length ys → sets (sets tape i xs) i ys ≡ sets tape i ys
+written-over tape i [] ys h = refl
+written-over tape i (x ∷ xs) [] h = absurd (omega arith)
+written-over tape i (x ∷ xs) (y ∷ ys) h =
+    ap (λ (z : List ℕ). sets z (suc i) ys) (set-sets (set tape i x) (suc i) xs i y (omega arith) ∙ ap (λ (z : List ℕ). sets z (suc i) xs) (set-set tape i x y))
+    ∙ written-over (set tape i y) (suc i) xs ys (omega arith)
+
+-- what an open cell held is gone when it is closed
+pub closed-again : (tape : List ℕ) (c a k : ℕ) (ws : List ℕ) (e n : ℕ) →
+    closed (lay (closed tape c a k) (c + 1) ws) c e n ≡ closed (lay tape (c + 1) ws) c e n
+closed-again tape c a k ws e n =
+    let i : ℕ = c * cellWords in
+    let j : ℕ = (c + 1) * cellWords in
+    let under : (z : List ℕ) → closed (sets z j ws) c e n ≡ sets (closed z c e n) j ws =
+    λ z. ap (λ (y : List ℕ). set y (i + 4) n) (set-sets z j ws (i + 2) e (omega arith)) ∙ set-sets (set z (i + 2) e) j ws (i + 4) n (omega arith) in
+    let over : closed (closed tape c a k) c e n ≡ closed tape c e n =
+    ap (λ (y : List ℕ). set y (i + 4) n) (set-comm (set tape (i + 2) a) (i + 4) (i + 2) k e (λ h. omega arith) ∙ ap (λ (y : List ℕ). set y (i + 4) k) (set-set tape (i + 2) a e))
+    ∙ set-set (set tape (i + 2) e) (i + 4) k n in
+    under (closed tape c a k) ∙ ap (λ (y : List ℕ). sets y j ws) over ∙ sym (under tape)
 
 -- a cell whose words are stored in their order
 pub in-order : (tape : List ℕ) (c tag p e up n : ℕ) →

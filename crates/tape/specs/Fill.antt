@@ -1,12 +1,12 @@
 -- How the tape is written when its input is known to be good: what the functions that write it rely on, and what they leave.
-use Prim.Native.Nat.{ℕ, suc, _+_, _*_, _≤_}
+use Prim.Native.Nat.{ℕ, _+_, _*_, _≤_}
 use mathlib.Core.Path.{_≡_}
 use mathlib.Core.List.{List}
 use lib.ListN.{length, set}
 use lib.Seq.{sets}
-use Rattle.layouts.specs.Tree.{Tree, Forest, Stands, bytes, bytesAll, count, size, sizes}
-use Rattle.layouts.specs.Layout.{Laid, AllLaid}
-use Rattle.tape.specs.Cells.{cellWords, words, wordsAll}
+use Rattle.layouts.specs.Tree.{Tree, Stands, bytes, size}
+use Rattle.layouts.specs.Layout.{Laid}
+use Rattle.tape.specs.Cells.{cellWords, words}
 
 -- the words of a cell that are known before its children, and those that are known after them
 abbrev pub opened : List ℕ → (cell tag start up : ℕ) → List ℕ
@@ -30,23 +30,3 @@ pub record Good (b : List ℕ) (room : ℕ) : Type 0 where
 -- whatever term stands there, its words are on the tape
 pub record Filled (b old new : List ℕ) : Type 0 where
   pub same : (t : Tree) → Laid t → Stands b 1 (bytes t) → new ≡ lay old 0 (words t 1 0 0)
-
--- n terms stand from `from` on, and `more` bytes behind them; there is room for their cells from number `cell` on
-pub record Some (b : List ℕ) (from n more cell room : ℕ) : Type 0 where
-  pub short : length b ≤ 16777216
-  pub kids : Forest
-  pub laid : AllLaid kids
-  pub counted : count kids ≡ n
-  pub stands : Stands b from (bytesAll kids)
-  pub behind : from + length (bytesAll kids) + more ≤ length b
-  pub fits : (cell + sizes kids) * cellWords ≤ room
-  pub later : cell ≤ from
-
--- whatever terms stand there, their words are on the tape, the cell around them is closed, and `next` is the cell behind them
-pub record Written (from more up : ℕ) (old : List ℕ) (kids : Forest) (next : ℕ) (new : List ℕ) : Type 0 where
-  pub behind : next ≡ up + 1 + sizes kids
-  pub same : new ≡ closed (lay old (up + 1) (wordsAll kids from up (up + 1))) up (from + length (bytesAll kids) + more) (suc (sizes kids))
-
-pub record Kids (b : List ℕ) (from n more up : ℕ) (old : List ℕ) (next : ℕ) (new : List ℕ) : Type 0 where
-  pub kept : length new ≡ length old
-  pub written : (ts : Forest) → AllLaid ts → count ts ≡ n → Stands b from (bytesAll ts) → Written from more up old ts next new

@@ -5,11 +5,10 @@
 // a refused read has written nothing.
 use terms::Answer;
 ghost use mathlib.Core.Path.{_≡_};
-ghost use mathlib.Core.List.{List, [], _∷_};
-ghost use Prim.Native.Nat.{ℕ, _+_, _*_, _<_, _≤_};
+ghost use Prim.Native.Nat.{_+_, _*_, _≤_};
 ghost use lib.ListN.{length, getD};
 ghost use Rattle.tape.specs.Read.{wholeFrom, readAll, Left};
-ghost use Rattle.tape.specs.Fill.{opened, closed, Good, Filled, Some, Kids};
+ghost use Rattle.tape.specs.Fill.{opened, closed, Good, Filled};
 
 // "five to a cell": the words of one.
 const CELL: usize = 5;
@@ -67,49 +66,57 @@ fn whole(b: &[u8], limit: usize, tape: &mut [u32]) -> Answer
     a
 }
 
-// The tape of a record that is good, where there is room for it.
+// The tape of a record that is good, where there is room for it: the root's cell, then one term after the other. `cell` is the next cell to
+// write, `up` the innermost term that isn't finished, and `left` how many of its children are still to come. Until a term is finished, the
+// words of its end and its size hold what goes on behind it: the bytes behind its children, and how many children its parent then has left.
+// So no stack is needed. The commonest terms have no children and are written at once, small integers first.
 fn fill(b: &[u8], tape: &mut [u32])
     requires { ⌜ Good (now b) (length (now tape)) ⌝ }
     ensures { λ _. ⌜ Filled (now (b .entry)) (now (tape .entry)) (now (tape .exit)) ⌝ }
 {
     begin(tape, 0, b[1], 1, 0);
     let s = layouts::shape_at(b, 1);
-    let from = s.from;
-    let n = s.kids;
-    let more = s.more;
-    kids(b, from, n, more, 0, tape);
-}
-
-// The cells of n children from `from` on, behind which `more` bytes stand; then what was left open of the cell `up`, whose children they
-// are. Answers the cell behind the last. The commonest children have no children of their own and are written here; the end of any other is
-// read off its cell.
-fn kids(b: &[u8], from: usize, n: usize, more: usize, up: usize, tape: &mut [u32]) -> usize
-    requires { ⌜ Some (now b) from n more (up + 1) (length (now tape)) ⌝ }
-    ensures { λ r. ⌜ Kids (now (b .entry)) from n more up (now (tape .entry)) r (now (tape .exit)) ⌝ }
-{
-    let mut pos = from;
-    let mut cell = up + 1;
-    let mut i = 0;
-    while i < n {
+    finish(tape, 0, s.more, 0);
+    let mut pos = s.from;
+    let mut left = s.kids;
+    let mut cell = 1;
+    let mut up = 0;
+    loop {
+        if left == 0 {
+            let i = up * CELL;
+            let more = tape[i + 2] as usize;
+            let outer = tape[i + 3] as usize;
+            left = tape[i + 4] as usize;
+            finish(tape, up, pos + more, cell - up);
+            if up == 0 {
+                return;
+            }
+            pos += more;
+            up = outer;
+            continue;
+        }
+        left -= 1;
+        if b[pos] == 97 {
+            leaf(tape, cell, 97, pos, pos + 2, up);
+            pos += 2;
+            cell += 1;
+            continue;
+        }
         let end = layouts::short_at(b, pos);
         if end != 0 {
             leaf(tape, cell, b[pos], pos, end, up);
             pos = end;
             cell += 1;
-            i += 1;
             continue;
         }
         begin(tape, cell, b[pos], pos, up);
-        let s = layouts::shape_at(b, pos);
-        let first = s.from;
-        let m = s.kids;
-        let next = kids(b, first, m, s.more, cell, tape);
-        pos = tape[cell * CELL + 2] as usize;
-        cell = next;
-        i += 1;
+        let s = layouts::inner_at(b, pos);
+        finish(tape, cell, s.more, left);
+        pos = s.from;
+        left = s.kids;
+        up = cell;
+        cell += 1;
     }
-    finish(tape, up, pos + more, cell - up);
-    cell
 }
 
 // The cell of a term without children, its words in their order: so they take the least time.
@@ -138,7 +145,7 @@ fn begin(tape: &mut [u32], cell: usize, tag: u8, start: usize, up: usize)
     tape[i + 3] = up as u32;
 }
 
-// What is known of it after them: its end, and the cells in its subtree.
+// What is known of it after them: its end, and the cells in its subtree. Until then these words hold what `fill` keeps there.
 fn finish(tape: &mut [u32], cell: usize, end: usize, size: usize)
     requires { ⌜ (cell * 5 + 5 ≤ length (now tape)) × ((end ≤ 16777216) × (size ≤ 16777216)) ⌝ }
     ensures { λ _. ⌜ now (tape .exit) ≡ closed (now (tape .entry)) cell end size ⌝ }

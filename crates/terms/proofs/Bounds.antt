@@ -118,12 +118,22 @@ module _ (b : List ℕ) (at : ℕ) where
       go false false true e k = early number.Long (omega arith)
       go false false false e k = read limit refl e (ltb-false 64 limit k)
 
-  -- past the input's end nothing is begun
-  pub past : (limit : ℕ) → length b ≤ at → readAt b at limit .begun ≡ 0
+  -- past the input's end nothing is begun, and no path entered
+  pub past : (limit : ℕ) → length b ≤ at → (readAt b at limit .begun ≡ 0) × (readAt b at limit .len ≡ 0)
   unfolding readAt answer
   past limit h = go (eqb limit 0 || ltb 64 limit) (ltb 16777216 (length b))
     where
-      go : (x y : Bool) → cond x (before number.Limit) (cond y (before number.Long) (answer (term b limit limit start))) .begun ≡ 0
-      go true y = refl
-      go false true = refl
-      go false false = rw (at-end b limit limit start h)
+      go : (x y : Bool) →
+          let a = cond x (before number.Limit) (cond y (before number.Long) (answer (term b limit limit start))) in
+          (a .begun ≡ 0) × (a .len ≡ 0)
+      go true y = (refl, refl)
+      go false true = (refl, refl)
+      go false false = rw (at-end b limit limit start h) (refl, refl)
+
+  -- "at most 64 segments", at any place
+  pub few-segments : (limit : ℕ) → readAt b at limit .len ≤ 64
+  few-segments limit = go (ltb at (length b)) refl
+    where
+      go : (x : Bool) → ltb at (length b) ≡ x → readAt b at limit .len ≤ 64
+      go true e = bounded limit (omega (arith, ltb-true at (length b) e)) .fits
+      go false e = omega (arith, past limit (ltb-false at (length b) e) .1)

@@ -1,18 +1,22 @@
 -- What reading answers on document 01's records, as the definition computes it; each shuts out a wrong reading that it names. The reading
--- is of the term behind byte 131, so the place is 1. Assumes nothing.
+-- is of the term behind byte 131, so the place is 1. At the end, answers that `refusal` may not give. Assumes nothing.
 use Prim.Native.Nat.{ℕ}
-use mathlib.Core.Path.{_≡_, refl}
+use native.Mathlib.Omega.{arith}
+use mathlib.Core.Path.{_≡_, refl, ap}
 use mathlib.Core.List.{List, [], _∷_}
 use Rattle.fields.specs.Be.{be, beAt}
 use Rattle.fields.specs.Field.{holds, fieldAt}
 use Rattle.utf8.specs.Unicode.{scalar, encode, decode, starts, charBytes, goodFrom, goodBytes}
+use Rattle.rows.specs.Numbers as number
 use Rattle.rows.specs.Row as row
 use Rattle.rows.specs.Layout.{leaf}
+use Rattle.terms.specs.declared.Answer.{Answer}
 use Rattle.terms.specs.declared.Kind.{Kind}
 use Rattle.terms.specs.declared.Kind.the-variants as kind
 use Rattle.terms.specs.declared.Segment.{Segment}
 use Rattle.terms.specs.Reading.{At, Out, done, no, andThen, entered, fields, pass, sized}
 use Rattle.terms.specs.Terms.{capped, elems, pair, pairs, required, isAtom, isNatural, isPid, atMost, smallTuple, largeTuple, list, map, pid, reference, export, captured, function, body, term}
+use Rattle.terms.specs.Answer.{refusal}
 
 -- reading behind byte 131. `unfolding behind` opens all that it computes with
 unfoldable pub behind : List ℕ → ℕ → Out
@@ -85,3 +89,13 @@ map-over-cap = refl
 pub value-missing : behind (131 ∷ 116 ∷ 0 ∷ 0 ∷ 0 ∷ 1 ∷ 97 ∷ 1 ∷ []) 64 ≡ no 1 0 (stands 8 8 2 2) (segment kind.Value 6 ∷ [])
 unfolding behind
 value-missing = refl
+
+-- what `refusal` may not answer: no extra where one was given, as by Trailing with a byte left; a segment; the counts exchanged
+pub extra-dropped : {r : Answer} → r .extra ≡ 0 → ¬ (r ≡ refusal number.Trailing 2 1 1 1 [])
+extra-dropped h e = omega (arith, h, ap (λ (a : Answer). a .extra) e)
+
+pub some-segment : {r : Answer} {n o x c d : ℕ} → r .len ≡ 1 → ¬ (r ≡ refusal n o x c d [])
+some-segment h e = omega (arith, h, ap (λ (a : Answer). a .len) e)
+
+pub counts-exchanged : {r : Answer} {n o x c d : ℕ} → ¬ (c ≡ d) → r .begun ≡ d → ¬ (r ≡ refusal n o x c d [])
+counts-exchanged k h e = k (omega (arith, h, ap (λ (a : Answer). a .begun) e))

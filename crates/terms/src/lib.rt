@@ -1,9 +1,10 @@
 // Terms: where the term at a place ends, or why it is refused and where; how many terms were begun and how deeply they are nested.
 //
 // It stands over bytes, text and rows and knows only their promises. Each family of terms has a reader; they call each other through
-// `term`, and the nesting that is left falls at each call. A reader answers the end of what it read, or 0: a refusal. What else reading
-// leaves behind lies in numbers that are lent to it. `seen` is the start of the last term reached, the terms begun and the deepest nesting
-// begun. `why`, of a refusal, is its number, its extra, how many segments its path has, and those, innermost first.
+// `term`, or through `child` from the one loop over children, and the nesting that is left falls at each call. A reader answers the end of
+// what it read, or 0: a refusal. What else reading leaves behind lies in numbers that are lent to it. `seen` is the start of the last term
+// reached, the terms begun and the deepest nesting begun. `why`, of a refusal, is its number, its extra, how many segments its path has,
+// and those, innermost first.
 //
 // Changed from decode_borrowed and its readers in decoder.rs (michaelklishin/edp-rs, fc07dcb95d),
 // Copyright (C) 2025-2026 Michael S. Klishin and Contributors, Apache-2.0: see NOTICE.
@@ -11,7 +12,7 @@ use fields::Field;
 use rows::Row;
 ghost use mathlib.Core.Path.{_≡_};
 ghost use mathlib.Core.List.{List, []};
-ghost use Prim.Native.Nat.{ℕ, _+_, _-_, _*_, _<_, _≤_, max};
+ghost use Prim.Native.Nat.{ℕ, _+_, _-_, _<_, _≤_, max};
 ghost use lib.ListN.{length, getD};
 ghost use Rattle.rows.specs.Layout as layout;
 ghost use Rattle.terms.specs.Reading.{Out, no, reach, begin, fields, pass};
@@ -675,7 +676,7 @@ fn kids(
             continue;
         }
         keep(last, count, deep, seen);
-        let e = term(b, limit, rem, pos, seen, why);
+        let e = child(b, limit, rem, pos, seen, why);
         if e == 0 {
             note(segment_of(of, n, i, prev), why);
             return 0;
@@ -689,6 +690,44 @@ fn kids(
     }
     keep(last, count, deep, seen);
     pos
+}
+
+// A child in the loop of `kids`, as `term` reads it; the commonest that have children go straight to their readers. It has one caller, so
+// that it becomes part of the loop, and a container within another costs one call, not two.
+fn child(
+    b: &[u8],
+    limit: usize,
+    rem: usize,
+    pos: usize,
+    seen: &mut [usize; 3],
+    why: &mut [u64; 67],
+) -> usize
+    requires { ⌜ Ready (now b) limit rem pos (now seen) (now why) ⌝ }
+    ensures { λ r. ⌜ Told r (now (seen .exit)) (now (why .exit)) (length (now (b .entry))) rem (def.term (now (b .entry)) limit rem (place pos (now (seen .entry)))) ⌝ }
+{
+    if rem == 0 {
+        return term(b, limit, rem, pos, seen, why);
+    }
+    if b.len() <= pos {
+        return term(b, limit, rem, pos, seen, why);
+    }
+    let left = rem - 1;
+    let tag = b[pos];
+    match tag {
+        104 => {
+            begun(pos, limit - left, seen);
+            small_tuple(b, limit, left, pos + 1, seen, why)
+        }
+        108 => {
+            begun(pos, limit - left, seen);
+            list(b, limit, left, pos + 1, seen, why)
+        }
+        116 => {
+            begun(pos, limit - left, seen);
+            map(b, limit, left, pos + 1, seen, why)
+        }
+        _ => term(b, limit, rem, pos, seen, why),
+    }
 }
 
 // The deepest nesting begun, raised to that of the first of n children where it is begun: then leaves among them change it no more.
@@ -715,7 +754,8 @@ fn larger(x: usize, y: usize) -> usize
     if x < y { y } else { x }
 }
 
-// The end of a leaf that is well, found the short way; 0 says nothing.
+// The end of a leaf that is well, found the short way; 0 says nothing. The tests of ranges keep the compiler from making a table of jumps of
+// it, which takes longer.
 fn short(b: &[u8], rem: usize, pos: usize) -> usize
     requires { ⌜ (pos ≤ length (now b)) × (length (now b) ≤ 16777216) ⌝ }
     ensures { λ r. ⌜ (¬ (r ≡ 0) → Short (now (b .entry)) rem pos r) ⌝ }
@@ -727,12 +767,24 @@ fn short(b: &[u8], rem: usize, pos: usize) -> usize
         return 0;
     }
     let tag = b[pos];
+    if tag < 98 {
+        if tag == 97 {
+            return pos + 2;
+        }
+        if tag == 70 {
+            return pos + 9;
+        }
+        return 0;
+    }
+    if 118 < tag {
+        if tag == 119 {
+            return short_name(b, pos);
+        }
+        return 0;
+    }
     match tag {
-        97 => pos + 2,
         98 => pos + 5,
-        70 => pos + 9,
         106 => pos + 1,
-        119 => short_name(b, pos),
         109 => short_binary(b, pos),
         _ => 0,
     }

@@ -5,7 +5,7 @@ use native.Mathlib.Omega.{arith}
 use mathlib.Core.Path.{_≡_, refl, ap, sym, _∙_, subst}
 use mathlib.Core.Logic.{_↔_}
 use mathlib.Core.List.{List, [], _∷_, _++_}
-use mathlib.Core.Bool.{Bool, true, false}
+use mathlib.Core.Bool.{Bool, true, false, _&&_}
 use borrow.Author.Tests.{eq-eqb, eqb-true, leb-true, leb-false, ltb-true, ltb-false}
 use lib.Dec.{eqb, ltb, leb}
 use lib.Bits.{bitAnd, and-high, and-block, and-zero-l}
@@ -151,6 +151,14 @@ plain-join {s} {i} {j} {m} {n} p q h l =
 
 pub plain-part : {s : List ℕ} {i n : ℕ} → Plain s i n → (j m : ℕ) → i ≤ j → j ≤ m → m ≤ n → Plain s j m
 plain-part p j m a b c = record { order = b; within = omega (arith, p .within); low = λ k d e. p .low k (omega arith) (omega arith) }
+
+-- tests of two runs that meet, taken together, are a test of both runs
+pub both-plain : {s : List ℕ} {i : ℕ} (j k : ℕ) (p q : Bool) → (p ≡ true) ↔ Plain s i (i + j) → (q ≡ true) ↔ Plain s (i + j) (i + j + k) → ((p && q) ≡ true) ↔ Plain s i (i + (j + k))
+both-plain {s} {i} j k true q a b = (
+  λ e. subst (λ (n : ℕ). Plain s i n) (omega arith) (plain-join (a .0 refl) (b .0 e) (omega arith) (omega arith)),
+  λ w. b .1 (plain-part w _ _ (omega arith) (omega arith) (omega arith)),
+)
+both-plain j k false q a b = (never, λ w. a .1 (plain-part w _ _ (omega arith) (omega arith) (omega arith)))
 
 -- a byte more
 pub plain-more : {s : List ℕ} {i j : ℕ} → Plain s i j → j < length s → getD s j 0 < 0x80 → Plain s i (j + 1)

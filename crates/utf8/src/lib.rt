@@ -1,7 +1,8 @@
 // UTF-8, as Unicode defines it: how many leading bytes of a text form whole good characters, and a short way for ASCII.
 //
 // A text is good where its good bytes are all of it. The check computes code points, as specs/Unicode.antt speaks of them; runs of
-// ASCII are passed eight bytes at a time. It stands where decoder.rs (michaelklishin/edp-rs, fc07dcb95d) calls std::str::from_utf8.
+// ASCII are passed 32 bytes at a time, what is left of them by eights. It stands where decoder.rs (michaelklishin/edp-rs, fc07dcb95d)
+// calls std::str::from_utf8.
 ghost use mathlib.Core.Path.{_≡_};
 ghost use mathlib.Core.Logic.{_↔_};
 ghost use mathlib.Core.Bool.{true};
@@ -91,12 +92,18 @@ fn plain_end(s: &[u8], from: usize) -> usize
     i
 }
 
-// As many eights of such a run as there are.
+// As many eights of such a run as there are. Blocks are looked for only behind a first eight: most runs in a short text have none.
 fn eights_end(s: &[u8], from: usize) -> usize
     requires { ⌜ from ≤ length (now s) ⌝ }
     ensures { λ r. ⌜ Plain (now (s .entry)) from r ⌝ }
 {
-    let mut i = from;
+    if s.len() - from < 8 {
+        return from;
+    }
+    if !low8(s, from) {
+        return from;
+    }
+    let mut i = blocks_end(s, from + 8);
     while 8 <= s.len() - i {
         if !low8(s, i) {
             return i;
@@ -104,6 +111,29 @@ fn eights_end(s: &[u8], from: usize) -> usize
         i += 8;
     }
     i
+}
+
+// As many blocks of 32 bytes of such a run as there are.
+fn blocks_end(s: &[u8], from: usize) -> usize
+    requires { ⌜ from ≤ length (now s) ⌝ }
+    ensures { λ r. ⌜ Plain (now (s .entry)) from r ⌝ }
+{
+    let mut i = from;
+    while 32 <= s.len() - i {
+        if !low32(s, i) {
+            return i;
+        }
+        i += 32;
+    }
+    i
+}
+
+// Whether 32 bytes are ASCII: four eights with no branch between them, which the compiler makes one test of.
+fn low32(b: &[u8], at: usize) -> bool
+    requires { ⌜ at + 32 ≤ length (now b) ⌝ }
+    ensures { λ r. ⌜ (r ≡ true) ↔ Plain (now (b .entry)) at (at + 32) ⌝ }
+{
+    low8(b, at) & low8(b, at + 8) & low8(b, at + 16) & low8(b, at + 24)
 }
 
 // Whether eight bytes are ASCII.

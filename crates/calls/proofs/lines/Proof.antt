@@ -7,7 +7,7 @@ use Rattle.calls.proofs.lines.Statement.{statement}
 use Rattle.calls.proofs.lines.Tie as tie
 
 abbrev Inv-loop : tie.InvT-loop
-Inv-loop text end bytes₀ store₀ run₀ out₀ names₀ at₀ from₀ stop₀ t14 bytes store run out names at from stop = (from ≤ stop) × ((stop ≤ end) × ((at ≤ length out) × ((length bytes ≡ length bytes₀) × ((length store ≡ length store₀) × ((length run ≡ length run₀) × (length out ≡ length out₀))))))
+Inv-loop text end bytes₀ store₀ run₀ out₀ names₀ at₀ from₀ stop₀ t14 bytes store run out names at from stop = (from ≤ stop) × ((stop ≤ end) × ((length bytes ≡ length bytes₀) × ((length store ≡ length store₀) × ((length run ≡ length run₀) × (length out ≡ length out₀)))))
 
 abbrev μ-loop : tie.MeasureT-loop
 μ-loop text end bytes₀ store₀ run₀ out₀ names₀ at₀ from₀ stop₀ t14 bytes store run out names at from stop = end - stop

@@ -14,17 +14,35 @@ Inv-loop s from i₀ i = Plain s from i
 abbrev μ-loop : tie.MeasureT-loop
 μ-loop s from i₀ i = length s - i
 
-loop-holds : tie.Need-loop-holds Inv-loop μ-loop
-loop-holds c = plain-none _ _ (c .before .pre)
+sub-if1 : tie.Need-sub-if1 Inv-loop μ-loop
+sub-if1 c = omega arith
 
-sub-loop : tie.Need-sub-loop Inv-loop μ-loop
-sub-loop c = omega arith
+returns : tie.Need-returns Inv-loop μ-loop
+returns c = plain-none _ _ (omega arith)
 
 low8-requires : tie.Need-low8-requires Inv-loop μ-loop
 low8-requires c κs = omega arith
 
-returns : tie.Need-returns Inv-loop μ-loop
-returns c = c .before .before .before .loop .inv
+returns-2 : tie.Need-returns-2 Inv-loop μ-loop
+returns-2 c = plain-none _ _ (omega arith)
+
+add-blocks-end : tie.Need-add-blocks-end Inv-loop μ-loop
+add-blocks-end c = omega arith
+
+blocks-end-requires : tie.Need-blocks-end-requires Inv-loop μ-loop
+blocks-end-requires c κs = omega arith
+
+loop-holds : tie.Need-loop-holds Inv-loop μ-loop
+loop-holds c = plain-join (c .before .before .low8 .ensures .0 (not-false _ (c .before .if2 .left))) (c .blocks-end .ensures) (omega arith) (c .blocks-end .ensures .order)
+
+sub-loop : tie.Need-sub-loop Inv-loop μ-loop
+sub-loop c = omega arith
+
+low8-requires-2 : tie.Need-low8-requires-2 Inv-loop μ-loop
+low8-requires-2 c κs = omega arith
+
+returns-3 : tie.Need-returns-3 Inv-loop μ-loop
+returns-3 c = c .before .before .before .loop .inv
 
 add-i : tie.Need-add-i Inv-loop μ-loop
 add-i c = omega arith
@@ -33,10 +51,10 @@ loop-less : tie.Need-loop-less Inv-loop μ-loop
 loop-less c = omega arith
 
 loop-again : tie.Need-loop-again Inv-loop μ-loop
-loop-again c = plain-join (c .before .before .before .loop .inv) (c .before .low8 .ensures .0 (not-false _ (c .if1 .left))) (omega arith) (omega arith)
+loop-again c = plain-join (c .before .before .before .loop .inv) (c .before .low82 .ensures .0 (not-false _ (c .if3 .left))) (omega arith) (omega arith)
 
-returns-2 : tie.Need-returns-2 Inv-loop μ-loop
-returns-2 c = c .before .loop .inv
+returns-4 : tie.Need-returns-4 Inv-loop μ-loop
+returns-4 c = c .before .loop .inv
 
 pub eights-end-spec : {M : Type 1} → statement M
 eights-end-spec =
@@ -44,11 +62,17 @@ eights-end-spec =
     (tie.spec
     Inv-loop
     μ-loop
+    sub-if1
+    returns
+    low8-requires
+    returns-2
+    add-blocks-end
+    blocks-end-requires
     loop-holds
     sub-loop
-    low8-requires
-    returns
+    low8-requires-2
+    returns-3
     add-i
     loop-less
     loop-again
-    returns-2)
+    returns-4)

@@ -6,10 +6,10 @@ use Rattle.calls.proofs.cells.cells.Statement.{statement}
 use Rattle.calls.proofs.cells.cells.Tie as tie
 
 mul-n : tie.Need-mul-n
-mul-n c = omega (arith, c .before .before .before .before .before .before .before .before .pre .0 (omega arith))
+mul-n c = omega (arith, c .before .before .before .before .before .before .before .before .pre (omega arith))
 
 slice-aggregate-words : tie.Need-slice-aggregate-words
-slice-aggregate-words c = simp length-take (omega (arith, c .before .before .before .before .before .before .before .before .before .pre .0 (omega arith)))
+slice-aggregate-words c = simp length-take (omega (arith, c .before .before .before .before .before .before .before .before .before .pre (omega arith)))
 
 pub cells-spec : {M : Type 1} → statement M
 cells-spec =

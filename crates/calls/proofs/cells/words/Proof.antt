@@ -8,7 +8,7 @@ use Rattle.calls.proofs.cells.words.Statement.{statement}
 use Rattle.calls.proofs.cells.words.Tie as tie
 
 abbrev Inv-loop : tie.InvT-loop
-Inv-loop run out₀ at put₀ i₀ out put i = (i ≤ length run) × ((put ≤ length out) × (length out ≡ length out₀))
+Inv-loop run out₀ at put₀ i₀ out put i = (i ≤ length run) × (length out ≡ length out₀)
 
 abbrev μ-loop : tie.MeasureT-loop
 μ-loop run out₀ at put₀ i₀ out put i = length run - i

@@ -7,7 +7,7 @@ use Rattle.calls.proofs.names.all.Statement.{statement}
 use Rattle.calls.proofs.names.all.Tie as tie
 
 abbrev Inv-loop : tie.InvT-loop
-Inv-loop c store out₀ at put₀ slot₀ out put slot = (slot ≤ 255) × ((put ≤ length out) × (length out ≡ length out₀))
+Inv-loop c store out₀ at put₀ slot₀ out put slot = (slot ≤ 255) × (length out ≡ length out₀)
 
 abbrev μ-loop : tie.MeasureT-loop
 μ-loop c store out₀ at put₀ slot₀ out put slot = 255 - slot

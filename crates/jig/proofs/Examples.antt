@@ -1,0 +1,100 @@
+-- What is told of some inputs, as the definitions compute it; each shuts out a wrong call that it names. Assumes nothing.
+use Prim.Native.Nat.{ℕ}
+use native.Mathlib.Omega.{arith}
+use mathlib.Core.Path.{_≡_, refl, ap}
+use mathlib.Core.Bool.{true}
+use mathlib.Core.List.{List, [], _∷_}
+use lib.ListN.{length, getD, replicate}
+use lib.Count.{ones}
+use lib.IntN.{negsuc}
+use borrow.Author.Tests.{eq-eqb}
+use Rattle.fields.specs.Be.{be, beAt}
+use Rattle.fields.specs.Field.{holds, fieldAt}
+use Rattle.utf8.specs.Unicode.{scalar, encode, decode, starts, charBytes, goodFrom, goodBytes}
+use Rattle.rows.specs.Numbers as number
+use Rattle.rows.specs.Row as row
+use Rattle.rows.specs.Layout as layout
+use Rattle.heads.specs.Head as head
+use Rattle.cache.specs.declared.Cache.{Cache}
+use Rattle.cache.specs.Names.{storeBytes, filled, countOf, gotAt}
+use Rattle.cache.specs.Header.{headerIn}
+use Rattle.cache.proofs.Examples as cache
+use Rattle.lookup.specs.Lookup as key
+use Rattle.lookup.proofs.Examples as lookup
+use Rattle.fragments.specs.Fragment.{firstAt, nextAt}
+use Rattle.fragments.proofs.Examples.{aFirst, aNext, first-whole, first-version, next-whole, next-kind}
+use Rattle.jig.specs.Shown.{Found}
+use Rattle.jig.specs.Heads.{placed}
+use Rattle.jig.specs.Names.{held, said}
+use Rattle.jig.specs.Fragments.{first, next}
+
+-- sill_part: the bytes of a string are no part. A call that hands out every run says 3 and 1
+pub string-part : placed (head.runOf (head.headAt (107 ∷ 0 ∷ 1 ∷ 97 ∷ []) 0 .value)) ≡ 0 ∷ 0 ∷ []
+unfolding head.headAt head.term head.leaf head.fixed layout.leaf row.sized row.bytes holds fieldAt beAt be
+string-part = refl
+
+-- sill_empty: a call that fills the last slot, and one that leaves the words of a cache with names
+abbrev of : List ℕ → Cache
+of words = record { filled = words }
+
+pub last-slot-filled : {words : List ℕ} → filled words 255 ≡ true → ¬ (words ≡ replicate 4 0)
+last-slot-filled {words} h e = cache.last-slot-filled {r = of words} h (ap of e)
+
+pub names-kept : {words : List ℕ} → ¬ (countOf words ≡ 0) → ¬ (words ≡ replicate 4 0)
+unfolding countOf ones
+names-kept h e = h (ap countOf e)
+
+-- sill_count: a call that passes over the last word says 0; one that counts words with a name says 1
+pub last-word : countOf (0 ∷ 0 ∷ 0 ∷ 1 ∷ []) ≡ 1
+unfolding countOf ones
+last-word = refl
+
+pub two-in-a-word : countOf (3 ∷ 0 ∷ 0 ∷ 0 ∷ []) ≡ 2
+unfolding countOf ones
+two-in-a-word = refl
+
+-- sill_get, of a store of which slot 0 begins 1 97: a call that tells the slot's place says 0; one that doesn't ask whether the slot is
+-- filled tells this name in an empty cache too
+module _ (rest : List ℕ) (h : length rest ≡ 65534) where
+  pub behind-the-length : held (gotAt (1 ∷ 0 ∷ 0 ∷ 0 ∷ []) (1 ∷ 97 ∷ rest) 0) ≡ 0 ∷ 1 ∷ 1 ∷ []
+  unfolding gotAt filled
+  behind-the-length = rw (eq-eqb (length (1 ∷ 97 ∷ rest)) storeBytes (omega arith)) refl
+
+  pub no-name : held (gotAt (0 ∷ 0 ∷ 0 ∷ 0 ∷ []) (1 ∷ 97 ∷ rest) 0) ≡ number.Absent ∷ 0 ∷ 0 ∷ []
+  unfolding gotAt filled
+  no-name = rw (eq-eqb (length (1 ∷ 97 ∷ rest)) storeBytes (omega arith)) refl
+
+-- sill_header: a call that tells the extra before the rest says 13, 69, 0
+pub header-kind : said (headerIn (131 ∷ 69 ∷ []) 65536) ≡ number.Kind ∷ 0 ∷ 69 ∷ []
+unfolding headerIn
+header-kind = ap said (cache.examples .kind)
+
+-- the lookups: a call that looks for another number finds none; one that looks for the front of a name finds it
+pub number-found : {told old new : List ℕ} → Found (131 ∷ 116 ∷ 0 ∷ 0 ∷ 0 ∷ 1 ∷ 98 ∷ 255 ∷ 255 ∷ 255 ∷ 255 ∷ 106 ∷ []) 1 64 (key.number (negsuc 0)) told old new → (getD told 0 0 ≡ 0) × (getD told 2 0 ≡ 11)
+number-found f = rw (f .shows) (lookup.signed-key (f .looked))
+
+pub name-missed : {told old new : List ℕ} → Found (131 ∷ 116 ∷ 0 ∷ 0 ∷ 0 ∷ 1 ∷ 119 ∷ 2 ∷ 97 ∷ 98 ∷ 106 ∷ []) 1 64 (key.name (97 ∷ [])) told old new → (getD told 0 0 ≡ number.Absent) × (getD told 2 0 ≡ 1)
+name-missed f = rw (f .shows) (lookup.longer-name (f .looked))
+
+-- sill_first: a call that leaves the extra out says 12 and nothing more; one that exchanges any two numbers of a good one tells another row
+pub version-told : first (firstAt (130 ∷ [])) ≡ number.Version ∷ 0 ∷ 130 ∷ 0 ∷ 0 ∷ 0 ∷ []
+version-told = ap first first-version
+
+pub first-told : first (firstAt aFirst) ≡ 0 ∷ 19 ∷ 0 ∷ 258 ∷ 3 ∷ 1 ∷ []
+first-told = ap first first-whole
+
+-- sill_next: a call that takes a first fragment too says 0, and where its rest begins; likewise of its numbers
+pub first-for-next : next (nextAt aFirst) ≡ number.Kind ∷ 0 ∷ 69 ∷ 0 ∷ 0 ∷ []
+first-for-next = ap next next-kind
+
+pub next-told : next (nextAt aNext) ≡ 0 ∷ 18 ∷ 0 ∷ 258 ∷ 2 ∷ []
+next-told = ap next next-whole
+
+-- sill_utf8: a call that says whether all is good says 0, and one that takes any byte 2; one that counts characters says 1
+pub good-front : goodBytes (97 ∷ 255 ∷ []) ≡ 1
+unfolding goodBytes goodFrom charBytes decode scalar encode starts
+good-front = refl
+
+pub two-bytes : goodBytes (195 ∷ 169 ∷ []) ≡ 2
+unfolding goodBytes goodFrom charBytes decode scalar encode starts
+two-bytes = refl

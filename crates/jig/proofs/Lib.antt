@@ -1,0 +1,4 @@
+pub mod Told
+pub mod Twos
+pub mod Parts
+pub mod Examples

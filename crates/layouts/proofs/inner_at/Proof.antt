@@ -1,0 +1,55 @@
+-- `layouts::inner_at` meets its contract: the definition at three tags, and `shape_at` at the rest. Assumes nothing.
+use native.Mathlib.Omega.{arith}
+use mathlib.Core.Path.{_∙_}
+use borrow.Author.Needs.{needs}
+use Rattle.layouts.specs.Shape.{shapeBy}
+use Rattle.layouts.proofs.Shapes.{by-tag, past, large}
+use Rattle.layouts.proofs.inner_at.Statement.{statement}
+use Rattle.layouts.proofs.inner_at.Tie as tie
+
+returns : tie.Need-returns
+returns c = c .ends .ensures ∙ past _ _ (c .before .if1 .taken)
+
+returns-2 : tie.Need-returns-2
+returns-2 c = c .ends2 .ensures ∙ large _ _ (c .before .before .if1 .left) (c .before .if2 .taken)
+
+returns-3 : tie.Need-returns-3
+unfolding shapeBy
+returns-3 c = rw (c .holds .ensures, c .before .one .ensures .0) (by-tag _ _ 104 (omega arith) (omega arith) (c .before .before .if3 .taken))
+
+returns-4 : tie.Need-returns-4
+unfolding shapeBy
+returns-4 c = rw (c .holds2 .ensures, c .before .four .ensures .0) (by-tag _ _ 108 (omega arith) (omega arith) (c .before .before .if4 .taken))
+
+returns-5 : tie.Need-returns-5
+unfolding shapeBy
+returns-5 c = rw (c .holds3 .ensures, c .before .four2 .ensures .0) (by-tag _ _ 116 (omega arith) (omega arith) (c .before .before .if5 .taken))
+
+pub inner-at-spec : {M : Type 1} → statement M
+inner-at-spec =
+    tie.close
+    (tie.spec
+    (λ c κs. search needs)
+    returns
+    (λ c κs. search needs)
+    returns-2
+    (λ c. search needs)
+    (λ c. search needs)
+    (λ c. search needs)
+    (λ c κs. search needs)
+    (λ c κs. search needs)
+    returns-3
+    (λ c. search needs)
+    (λ c. search needs)
+    (λ c κs. search needs)
+    (λ c. search needs)
+    (λ c κs. search needs)
+    returns-4
+    (λ c. search needs)
+    (λ c. search needs)
+    (λ c κs. search needs)
+    (λ c. search needs)
+    (λ c κs. search needs)
+    returns-5
+    (λ c κs. search needs)
+    (λ c. search needs))

@@ -1,0 +1,127 @@
+// showterm: what the reader says of the record on standard input, exactly as document 01 prints it.
+//
+// At most 65,536 bytes are read, with a nesting limit of 64 and room for 3,276 cells. Longer input is answered as number 10. Input that
+// can't be read to its end has no answer: that is said on standard error.
+use libc::STDERR_FILENO;
+use terms::Answer;
+ghost use Prim.Native.Nat.{_≤_, _*_, _+_};
+ghost use lib.ListN.{length};
+
+// The most bytes of a record, the nesting limit, and the words of a cell.
+const RECORD: usize = 65536;
+
+const LIMIT: usize = 64;
+
+const CELL: usize = 5;
+
+// Instead of a number of bytes: reading failed.
+const FAILED: usize = usize::MAX;
+
+fn main() {
+    let mut input = [0u8; 65537];
+    let mut tape = [0u32; 16380];
+    let mut out = io::large_buffer();
+    let n = fill(&mut input);
+    if n == FAILED {
+        io::write_all(STDERR_FILENO, b"standard input could not be read\n");
+        return;
+    }
+    if RECORD < n {
+        refused(terms::refusal(rows::LONG, 0, 0, 0, 0), &mut out);
+        return;
+    }
+    record(&input[..n], &mut tape, &mut out);
+}
+
+// Reads until the buffer is full or the input ends, and answers how many bytes that is.
+fn fill(buf: &mut [u8]) -> usize {
+    let mut n = 0;
+    while n < buf.len() {
+        let got = libc::read(0, &mut buf[n..]);
+        if got < 0 {
+            return FAILED;
+        }
+        let more = io::count(got, &buf[n..]);
+        if more == 0 {
+            break;
+        }
+        n += more;
+    }
+    n
+}
+
+fn record(b: &[u8], tape: &mut [u32], out: &mut [u8]) {
+    let a = tape::read(b, LIMIT, tape);
+    if a.number != 0 {
+        refused(a, out);
+        return;
+    }
+    accepted(a.begun, a.deepest, tape, out);
+}
+
+// An accepted record: its counts, and a line for each cell.
+fn accepted(begun: usize, deepest: usize, tape: &[u32], out: &mut [u8])
+    requires { ⌜ 5 * begun ≤ length (now tape) ⌝ }
+{
+    let mut put = counts(0, begun, deepest, out);
+    put = line(out, put, b"cells=", begun as u64);
+    let mut i = 0;
+    while i < begun {
+        put = cell(i, tape, out, put);
+        i += 1;
+    }
+    print::flush(out, put);
+}
+
+fn cell(i: usize, tape: &[u32], out: &mut [u8], at: usize) -> usize
+    requires { ⌜ 5 * i + 5 ≤ length (now tape) ⌝ }
+{
+    let w = CELL * i;
+    let put = print::field(out, at, b"cell=", i as u64);
+    let spanned = span(w, tape, out, put);
+    kin(w + 3, tape, out, spanned)
+}
+
+// Its tag, start and end, three words from w on.
+fn span(w: usize, tape: &[u32], out: &mut [u8], at: usize) -> usize
+    requires { ⌜ w + 3 ≤ length (now tape) ⌝ }
+{
+    let mut put = print::field(out, at, b" kind=", wide(tape[w]));
+    put = print::field(out, put, b" start=", wide(tape[w + 1]));
+    print::field(out, put, b" end=", wide(tape[w + 2]))
+}
+
+// Its parent's cell and the cells in its subtree, two words from w on.
+fn kin(w: usize, tape: &[u32], out: &mut [u8], at: usize) -> usize
+    requires { ⌜ w + 2 ≤ length (now tape) ⌝ }
+{
+    let put = print::field(out, at, b" parent=", wide(tape[w]));
+    line(out, put, b" size=", wide(tape[w + 1]))
+}
+
+// A refusal: its number, counts and place, its extra and its path.
+fn refused(a: Answer, out: &mut [u8]) {
+    let mut put = counts(a.number, a.begun, a.deepest, out);
+    put = line(out, put, b"offset=", a.offset as u64);
+    put = line(out, put, b"extra=", a.extra);
+    put = print::text(out, put, b"path=");
+    let path = a.path;
+    put = print::path(out, put, path, a.len);
+    put = print::text(out, put, b"\n");
+    print::flush(out, put);
+}
+
+fn counts(number: u64, begun: usize, deepest: usize, out: &mut [u8]) -> usize {
+    let mut put = line(out, 0, b"answer=", number);
+    put = line(out, put, b"terms=", begun as u64);
+    line(out, put, b"deepest=", deepest as u64)
+}
+
+fn line(out: &mut [u8], at: usize, name: &[u8], n: u64) -> usize {
+    let put = print::field(out, at, name, n);
+    print::text(out, put, b"\n")
+}
+
+fn wide(x: u32) -> u64 {
+    x as u64
+}

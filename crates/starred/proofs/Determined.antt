@@ -1,0 +1,181 @@
+-- Two answers that a public function's promise allows are one, and so is what they leave of what was lent: a line for each function, in
+-- the order of crates.txt. No promise is written again here: `f.Post` is what the `ensures` of f say of its arguments, its answer and its
+-- parameters at the end, as the check of f's own crate has them. Assumes nothing.
+use Prim.Native.Nat.{ℕ}
+use mathlib.Core.Path.{_≡_, refl, sym, _∙_}
+use mathlib.Core.Logic.{_↔_}
+use mathlib.Core.List.{List, [], _∷_}
+use mathlib.Core.Bool.{Bool, true, false}
+use Rattle.tape.proofs.Accepts as tape
+use Rattle.lookup.proofs.Meaning.{one-answer}
+use Rattle.jig.proofs.Told.{found-once, left-once}
+use Rattle.fields.proofs.has.Reads as fields-has
+use Rattle.fields.proofs.be_u8.Reads as fields-be-u8
+use Rattle.fields.proofs.be_u16.Reads as fields-be-u16
+use Rattle.fields.proofs.be_u32.Reads as fields-be-u32
+use Rattle.fields.proofs.be_u64.Reads as fields-be-u64
+use Rattle.fields.proofs.be_i32.Reads as fields-be-i32
+use Rattle.utf8.proofs.good.Reads as utf8-good
+use Rattle.utf8.proofs.ascii.Reads as utf8-ascii
+use Rattle.literal.proofs.trim.Reads as literal-trim
+use Rattle.literal.proofs.literal.Reads as literal-literal
+use Rattle.rows.proofs.leaf.Reads as rows-leaf
+use Rattle.terms.proofs.read.Reads as terms-read
+use Rattle.terms.proofs.refusal.Reads as terms-refusal
+use Rattle.heads.proofs.head.Reads as heads-head
+use Rattle.heads.proofs.part.Reads as heads-part
+use Rattle.layouts.proofs.shape_at.Reads as layouts-shape-at
+use Rattle.layouts.proofs.short_at.Reads as layouts-short-at
+use Rattle.layouts.proofs.inner_at.Reads as layouts-inner-at
+use Rattle.tape.proofs.read.Reads as tape-read
+use Rattle.lookup.proofs.find_name.Reads as lookup-find-name
+use Rattle.lookup.proofs.find_number.Reads as lookup-find-number
+use Rattle.cache.proofs.empty.Reads as cache-empty
+use Rattle.cache.proofs.count.Reads as cache-count
+use Rattle.cache.proofs.get.Reads as cache-get
+use Rattle.cache.proofs.part.Reads as cache-part
+use Rattle.cache.proofs.header.read.Reads as cache-header-read
+use Rattle.fragments.proofs.first.Reads as fragments-first
+use Rattle.fragments.proofs.next.Reads as fragments-next
+use Rattle.jig.proofs.sill_read.Reads as jig-sill-read
+use Rattle.jig.proofs.sill_term.Reads as jig-sill-term
+use Rattle.jig.proofs.sill_find_name.Reads as jig-sill-find-name
+use Rattle.jig.proofs.sill_find_number.Reads as jig-sill-find-number
+use Rattle.jig.proofs.sill_head.Reads as jig-sill-head
+use Rattle.jig.proofs.sill_part.Reads as jig-sill-part
+use Rattle.jig.proofs.sill_empty.Reads as jig-sill-empty
+use Rattle.jig.proofs.sill_count.Reads as jig-sill-count
+use Rattle.jig.proofs.sill_get.Reads as jig-sill-get
+use Rattle.jig.proofs.sill_header.Reads as jig-sill-header
+use Rattle.jig.proofs.sill_first.Reads as jig-sill-first
+use Rattle.jig.proofs.sill_next.Reads as jig-sill-next
+use Rattle.jig.proofs.sill_utf8.Reads as jig-sill-utf8
+
+-- a promise, of the lifetimes of what is lent, the arguments, the answer, and the parameters at the end
+module _ {L : Type 0} {A R S : L → Type 0} (Promise : (κ : L) → A κ → R κ → S κ → Type 0) where
+  -- in two calls with the same arguments the answers are the same
+  abbrev Answer : Type 0
+  Answer = (κ : L) (a : A κ) (x y : R κ) (s t : S κ) → Promise κ a x s → Promise κ a y t → x ≡ y
+
+  -- the answer is a part of what was lent, and its bytes are the same
+  abbrev Part : ((κ : L) → R κ → List ℕ) → Type 0
+  Part bytes = (κ : L) (a : A κ) (x y : R κ) (s t : S κ) → Promise κ a x s → Promise κ a y t → bytes κ x ≡ bytes κ y
+
+  -- the answers are the same, and so is what they leave
+  abbrev Both : ((κ : L) → S κ → List ℕ) → Type 0
+  Both left = (κ : L) (a : A κ) (x y : R κ) (s t : S κ) → Promise κ a x s → Promise κ a y t → (x ≡ y) × (left κ s ≡ left κ t)
+
+  -- nothing is answered: what is left in each of the runs that are written to is the same
+  abbrev Same : List ((κ : L) → S κ → List ℕ) → (κ : L) (s t : S κ) → Type 0
+  Same [] κ s t = Unit {0}
+  Same (run ∷ []) κ s t = run κ s ≡ run κ t
+  Same (run ∷ next ∷ runs) κ s t = (run κ s ≡ run κ t) × Same (next ∷ runs) κ s t
+
+  abbrev Leaves : List ((κ : L) → S κ → List ℕ) → Type 0
+  Leaves runs = (κ : L) (a : A κ) (x y : R κ) (s t : S κ) → Promise κ a x s → Promise κ a y t → Same runs κ s t
+
+pub record Determined : Type 0 where
+  pub fields-has : Answer fields-has.Post
+  pub fields-be-u8 : Answer fields-be-u8.Post
+  pub fields-be-u16 : Answer fields-be-u16.Post
+  pub fields-be-u32 : Answer fields-be-u32.Post
+  pub fields-be-u64 : Answer fields-be-u64.Post
+  pub fields-be-i32 : Answer fields-be-i32.Post
+  pub utf8-good : Answer utf8-good.Post
+  pub utf8-ascii : Answer utf8-ascii.Post
+  pub literal-trim : Answer literal-trim.Post
+  pub literal-literal : Answer literal-literal.Post
+  pub rows-leaf : Answer rows-leaf.Post
+  pub terms-read : Answer terms-read.Post
+  pub terms-refusal : Answer terms-refusal.Post
+  pub heads-head : Answer heads-head.Post
+  pub heads-part : Part heads-part.Post (λ κ r. r .now)
+  pub layouts-shape-at : Answer layouts-shape-at.Post
+  pub layouts-short-at : Answer layouts-short-at.Post
+  pub layouts-inner-at : Answer layouts-inner-at.Post
+  -- its third parameter is written to
+  pub tape-read : Both tape-read.Post (λ κ s. s .1 .1 .0 .now)
+  pub lookup-find-name : Answer lookup-find-name.Post
+  pub lookup-find-number : Answer lookup-find-number.Post
+  pub cache-empty : Answer cache-empty.Post
+  pub cache-count : Answer cache-count.Post
+  pub cache-get : Answer cache-get.Post
+  pub cache-part : Part cache-part.Post (λ κ r. r .now)
+  -- its third parameter is written to
+  pub cache-header-read : Both cache-header-read.Post (λ κ s. s .1 .1 .0 .now)
+  pub fragments-first : Answer fragments-first.Post
+  pub fragments-next : Answer fragments-next.Post
+  -- an exported call tells its answer in runs that are lent: here the numbers told, the path's words and the tape
+  pub jig-sill-read : Leaves jig-sill-read.Post ((λ κ s. s .1 .1 .1 .0 .now) ∷ (λ κ s. s .1 .1 .1 .1 .0 .now) ∷ (λ κ s. s .1 .1 .0 .now) ∷ [])
+  -- the numbers told and the path's words
+  pub jig-sill-term : Leaves jig-sill-term.Post ((λ κ s. s .1 .1 .1 .0 .now) ∷ (λ κ s. s .1 .1 .1 .1 .0 .now) ∷ [])
+  pub jig-sill-find-name : Leaves jig-sill-find-name.Post ((λ κ s. s .1 .1 .1 .1 .0 .now) ∷ (λ κ s. s .1 .1 .1 .1 .1 .0 .now) ∷ [])
+  pub jig-sill-find-number : Leaves jig-sill-find-number.Post ((λ κ s. s .1 .1 .1 .1 .0 .now) ∷ (λ κ s. s .1 .1 .1 .1 .1 .0 .now) ∷ [])
+  -- the numbers told
+  pub jig-sill-head : Leaves jig-sill-head.Post ((λ κ s. s .1 .1 .0 .now) ∷ [])
+  pub jig-sill-part : Leaves jig-sill-part.Post ((λ κ s. s .1 .1 .0 .now) ∷ [])
+  -- the cache's words
+  pub jig-sill-empty : Leaves jig-sill-empty.Post ((λ κ s. s .0 .now) ∷ [])
+  pub jig-sill-count : Answer jig-sill-count.Post
+  -- the numbers told
+  pub jig-sill-get : Leaves jig-sill-get.Post ((λ κ s. s .1 .1 .1 .0 .now) ∷ [])
+  -- the numbers told, the cache's words and its store
+  pub jig-sill-header : Leaves jig-sill-header.Post ((λ κ s. s .1 .1 .1 .0 .now) ∷ (λ κ s. s .1 .0 .now) ∷ (λ κ s. s .1 .1 .0 .now) ∷ [])
+  -- the numbers told
+  pub jig-sill-first : Leaves jig-sill-first.Post ((λ κ s. s .1 .0 .now) ∷ [])
+  pub jig-sill-next : Leaves jig-sill-next.Post ((λ κ s. s .1 .0 .now) ∷ [])
+  pub jig-sill-utf8 : Answer jig-sill-utf8.Post
+
+-- two that equal the same; two Booleans that are true where the same holds
+equal : {B : Type 0} {v x y : B} → x ≡ v → y ≡ v → x ≡ y
+equal p q = p ∙ sym q
+
+alike : {P : Type 0} (x y : Bool) → (x ≡ true) ↔ P → (y ≡ true) ↔ P → x ≡ y
+alike true y p q = sym (q .1 (p .0 refl))
+alike false true p q = p .1 (q .0 refl)
+alike false false p q = refl
+
+pub determined : Determined
+determined = record {
+  fields-has = λ κ a x y s t p q. equal p q;
+  fields-be-u8 = λ κ a x y s t p q. equal p q;
+  fields-be-u16 = λ κ a x y s t p q. equal p q;
+  fields-be-u32 = λ κ a x y s t p q. equal p q;
+  fields-be-u64 = λ κ a x y s t p q. equal p q;
+  fields-be-i32 = λ κ a x y s t p q. equal p q;
+  utf8-good = λ κ a x y s t p q. equal p q;
+  utf8-ascii = λ κ a x y s t p q. alike x y p q;
+  literal-trim = λ κ a x y s t p q. equal p q;
+  literal-literal = λ κ a x y s t p q. equal p q;
+  rows-leaf = λ κ a x y s t p q. equal p q;
+  terms-read = λ κ a x y s t p q. equal p q;
+  terms-refusal = λ κ a x y s t p q. equal p q;
+  heads-head = λ κ a x y s t p q. equal p q;
+  heads-part = λ κ a x y s t p q. equal p q;
+  layouts-shape-at = λ κ a x y s t p q. equal p q;
+  layouts-short-at = λ κ a x y s t p q. equal p q;
+  layouts-inner-at = λ κ a x y s t p q. equal p q;
+  tape-read = λ κ a x y s t p q. tape.determined (record { answered = p .0; left = p .1 }) (record { answered = q .0; left = q .1 });
+  lookup-find-name = λ κ a x y s t p q. one-answer p q;
+  lookup-find-number = λ κ a x y s t p q. one-answer p q;
+  cache-empty = λ κ a x y s t p q. equal p q;
+  cache-count = λ κ a x y s t p q. equal p q;
+  cache-get = λ κ a x y s t p q. equal p q;
+  cache-part = λ κ a x y s t p q. equal p q;
+  cache-header-read = λ κ a x y s t p q. (equal (p .0) (q .0), equal (p .1) (q .1));
+  fragments-first = λ κ a x y s t p q. equal p q;
+  fragments-next = λ κ a x y s t p q. equal p q;
+  jig-sill-read = λ κ a x y s t p q. (equal (p .0) (q .0), (equal (p .1 .0) (q .1 .0), left-once (a .1 .0) (p .0) (q .0) (p .1 .1) (q .1 .1)));
+  jig-sill-term = λ κ a x y s t p q. (equal (p .0) (q .0), equal (p .1) (q .1));
+  jig-sill-find-name = λ κ a x y s t p q. found-once p q;
+  jig-sill-find-number = λ κ a x y s t p q. found-once p q;
+  jig-sill-head = λ κ a x y s t p q. equal p q;
+  jig-sill-part = λ κ a x y s t p q. equal p q;
+  jig-sill-empty = λ κ a x y s t p q. equal p q;
+  jig-sill-count = λ κ a x y s t p q. equal p q;
+  jig-sill-get = λ κ a x y s t p q. equal p q;
+  jig-sill-header = λ κ a x y s t p q. (equal (p .0) (q .0), (equal (p .1 .0) (q .1 .0), equal (p .1 .1) (q .1 .1)));
+  jig-sill-first = λ κ a x y s t p q. equal p q;
+  jig-sill-next = λ κ a x y s t p q. equal p q;
+  jig-sill-utf8 = λ κ a x y s t p q. equal p q;
+}

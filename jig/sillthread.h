@@ -1,0 +1,162 @@
+/* Sillthread for C: a reader of Erlang terms that keeps nothing and takes no memory of its own.
+ *
+ * The library is target/staticlib/libjig.a, made by `rt staticlib jig`, for x86-64. Link it with the C library: it calls memset and memcpy.
+ * Each function is proved to answer what its call beneath answers (crates/jig), for every input; none can fail to return, and none looks
+ * at or writes to anything but what it is lent.
+ *
+ * What the caller owes, and no proof can see: each pointer leads to as many elements as its length or its array says (a length of 0 may
+ * come with any pointer but a null one), and what is lent to be written overlaps nothing else that is lent to the same call.
+ *
+ * Answers are told in lent numbers. The first is the number of the table below: 0 is Done, any other a refusal. All of `told` is written
+ * by every call, refused or not. Places are offsets from the input's first byte. */
+#ifndef SILLTHREAD_H
+#define SILLTHREAD_H
+
+#include <stddef.h>
+#include <stdint.h>
+
+#ifdef __cplusplus
+extern "C" {
+#endif
+
+/* The numbers the jig shows, and what `extra` holds where it isn't 0. */
+enum sill_number {
+    SILL_DONE = 0,
+    SILL_EOF = 1,      /* bytes missing */
+    SILL_TAG = 2,      /* wrong first byte, tag or child */
+    SILL_TEXT = 3,     /* not UTF-8 */
+    SILL_LITERAL = 4,  /* the text of tag 99 is no number */
+    SILL_BITS = 5,     /* a bit string's bits byte */
+    SILL_SIZE = 6,     /* over a cap */
+    SILL_TRAILING = 7, /* bytes left behind the term; extra: their count */
+    SILL_DEEP = 8,     /* nested over the limit */
+    SILL_ROOM = 9,     /* too few cells lent; extra: the cells needed */
+    SILL_LONG = 10,    /* the input has over SILL_LONGEST bytes */
+    SILL_NAME = 11,    /* a name of over 255 bytes */
+    SILL_VERSION = 12, /* a fragment's first byte; extra: that byte */
+    SILL_KIND = 13,    /* not a header, fragment or map; extra: the tag */
+    SILL_LIMIT = 14,   /* a nesting limit of 0 or over SILL_DEEPEST */
+    SILL_STORE = 15,   /* a name store of other than SILL_STORE_BYTES */
+    SILL_ABSENT = 16   /* no such key or name */
+};
+
+/* What a segment of a path is of. Its number is the index, for a map's value the place of the key, else 0. */
+enum sill_segment {
+    SILL_IN_TUPLE = 0,
+    SILL_IN_LIST = 1,
+    SILL_IN_TAIL = 2,
+    SILL_IN_KEY = 3,
+    SILL_IN_VALUE = 4,
+    SILL_IN_FREE = 5
+};
+
+/* The words of a cell: its term's tag, start and end (one past), its parent's cell, and the cells of its subtree, itself among them. The
+ * root is cell 0, and its parent 0. The first child of a cell is the cell behind it, the next is as many cells on as that one's subtree. */
+enum sill_cell {
+    SILL_CELL_TAG = 0,
+    SILL_CELL_START = 1,
+    SILL_CELL_END = 2,
+    SILL_CELL_PARENT = 3,
+    SILL_CELL_SIZE = 4,
+    SILL_CELL = 5 /* words to a cell */
+};
+
+/* The words that a read or a lookup tells: a place in `told` each. */
+enum sill_told {
+    SILL_NUMBER = 0,
+    SILL_END = 1,      /* where the term ends; 0 when refused */
+    SILL_OFFSET = 2,   /* of a refusal; of a lookup that is Done, the value's place */
+    SILL_EXTRA = 3,
+    SILL_BEGUN = 4,    /* terms begun */
+    SILL_DEEPENED = 5, /* deepest nesting begun */
+    SILL_SEGMENTS = 6, /* in the path */
+    SILL_TOLD = 7
+};
+
+/* The words that a head tells: number, tag, offset, extra, and from SILL_FIELD on up to five fields. */
+enum sill_head_told {
+    SILL_HEAD_NUMBER = 0,
+    SILL_HEAD_TAG = 1,
+    SILL_HEAD_OFFSET = 2,
+    SILL_HEAD_EXTRA = 3,
+    SILL_FIELD = 4,
+    SILL_HEAD_TOLD = 9
+};
+
+/* Sizes and limits. */
+enum sill_size {
+    SILL_DEEPEST = 64,        /* the largest nesting limit */
+    SILL_PATH = 128,          /* words of a path: two for each of 64 segments */
+    SILL_FILLED = 4,          /* words that say which slots of a store are filled */
+    SILL_STORE_BYTES = 65536, /* 256 slots of 256 bytes */
+    SILL_PART_TOLD = 2,
+    SILL_GET_TOLD = 3,
+    SILL_HEADER_TOLD = 3,
+    SILL_FIRST_TOLD = 6,
+    SILL_NEXT_TOLD = 5,
+    SILL_LONGEST = 16777216   /* bytes of an input */
+};
+
+/* Reads a record: byte 131 and one term to the input's end, nested at most `limit` deep; writes its tape, a cell for each term, into the
+ * `words` words of `tape`. Refused, in this order: Limit, Long, then left to right Eof, Tag, Text, Literal, Bits, Size, Deep, then
+ * Trailing, then Room. Only a Done read writes to the tape, and words behind its last cell stay. A refusal's offset is the start of the
+ * last term reached. `path`: for each segment its kind and its number, the outermost first; words behind the last segment stay. */
+void sill_read(const uint8_t *b, size_t len, size_t limit, uint32_t *tape, size_t words, uint64_t told[7], uint64_t path[128]);
+
+/* Reads the term at a place, any place, with no tape; bytes behind it don't matter. Refused as sill_read is, but for Trailing and Room. */
+void sill_term(const uint8_t *b, size_t len, size_t at, size_t limit, uint64_t told[7], uint64_t path[128]);
+
+/* Reads the map at a place and looks an atom up in it by its name, the n bytes of `name`. Done tells the place of the value of the last
+ * equal key as its offset. Refused as sill_term is, then Kind where the term is no map, then Absent, both at the map's place. */
+void sill_find_name(const uint8_t *b, size_t len, size_t at, size_t limit, const uint8_t *name, size_t n, uint64_t told[7], uint64_t path[128]);
+
+/* The same of an integer. Only keys of tags 97 and 98 are compared. */
+void sill_find_number(const uint8_t *b, size_t len, size_t at, size_t limit, int64_t number, uint64_t told[7], uint64_t path[128]);
+
+/* What stands at a place, any place, without its children. Fields by the tag, the rest of the five 0:
+ *   97 98        the integer, as two's complement     99           place and length of the number text
+ *   70           the double's bits                    100 118 119  place and length of the atom's name
+ *   104 105      arity                                106 113      none
+ *   107 109      place and length of the bytes        108          length
+ *   77           place, length, bits byte             110 111      place and number of the digits, sign byte, 1 where negative
+ *   116          arity                                88           place and length of the node's name, id, serial, creation
+ *   120          place and length of the node's name, id, creation
+ *   90           count of ids, place and length of the node's name, creation, place of the ids
+ *   112          size, arity, place of the 16 bytes, index, count of free terms
+ * Refused: Long, then as reading refuses the row. Writes nothing else. */
+void sill_head(const uint8_t *b, size_t len, size_t at, uint64_t told[9]);
+
+/* Place and length of the bytes of the atom's name (tags 100, 118, 119) or of the binary (109) at a place; 0 and 0 for any other head, a
+ * refused one too. There is no number: sill_head tells it. */
+void sill_part(const uint8_t *b, size_t len, size_t at, uint64_t told[2]);
+
+/* A cache of names is four words, which say which of 256 slots are filled, and a store of SILL_STORE_BYTES. This empties it: it sets the
+ * words to 0, and the store may hold anything. */
+void sill_empty(uint64_t filled[4]);
+
+/* How many names are in it. */
+size_t sill_count(const uint64_t filled[4]);
+
+/* The name in a slot. Told: number, its place in the store, its length, both 0 when refused. Refused: Store, Absent. */
+void sill_get(const uint64_t filled[4], const uint8_t *store, size_t store_len, uint8_t slot, uint64_t told[3]);
+
+/* Reads an atom header: 131, 68, a count, flags and references. Told: number, where the rest begins (0 when refused), extra. Each new name
+ * goes into its slot, and the slot's bit into `filled`, when it is complete; a fault behind it keeps it. Refused: Store, Long (neither
+ * stores anything), then Eof, Tag, Kind, and for a name Eof, Text, Name. */
+void sill_header(const uint8_t *b, size_t len, uint64_t filled[4], uint8_t *store, size_t store_len, uint64_t told[3]);
+
+/* Reads the header of a message's first fragment: 131, 69. Told: number, where the rest begins, extra, sequence, fragment, count of names;
+ * all 0 but number and extra when refused. Refused: Long, Eof, Version, Kind. */
+void sill_first(const uint8_t *b, size_t len, uint64_t told[6]);
+
+/* The same of a later fragment: 131, 70. There is no count. */
+void sill_next(const uint8_t *b, size_t len, uint64_t told[5]);
+
+/* How many leading bytes form whole good UTF-8 characters: all `len` where the text is good. Any length is taken. */
+size_t sill_utf8(const uint8_t *b, size_t len);
+
+#ifdef __cplusplus
+}
+#endif
+
+#endif
