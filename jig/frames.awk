@@ -1,8 +1,8 @@
 # frames.awk: the stack of each exported call, from `objdump -dr --no-show-raw-insn` of the library (x86-64). Prints `call bytes`.
 #
 # A function's frame is its return address, its pushes and what it takes off the stack pointer; a call out of the object (memset, memcpy)
-# has a return address alone. Reading calls itself, and each such call hands on one level of nesting less: a call of terms::term, and one of
-# terms::kids by itself (what `child` does has become part of it). A term in the sixty-fifth level is entered and refused as Deep, so that no
+# has a return address alone. Reading calls itself, and each such call hands on one level of nesting less: a call of terms::readers::term, and one of
+# terms::readers::kids by itself (what `child` does has become part of it). A term in the sixty-fifth level is entered and refused as Deep, so that no
 # way has more than 65 of them. The worst is the longest way with as many. Any other recursion, an indirect call or a frame whose size isn't
 # a constant is an error.
 BEGIN { levels = 65 }
@@ -29,14 +29,14 @@ BEGIN { levels = 65 }
 }
 END {
     # by levels, so that no way is followed through more than one
-    for (k = 0; k < levels; k++) { worst("terms::term", k); worst("terms::kids", k) }
+    for (k = 0; k < levels; k++) { worst("terms::readers::term", k); worst("terms::readers::kids", k) }
     if (!bad) for (f in frame) if (f ~ /^sill_/) print f, worst(f, levels)
     exit bad
 }
 function fail(text) { print "frames: " text > "/dev/stderr"; bad = 1; exit }
 function hex(s, n, i) { n = 0; for (i = 1; i <= length(s); i++) n = n * 16 + index("0123456789abcdef", substr(s, i, 1)) - 1; return n }
 # does this call hand on a level less?
-function falls(f, to) { return to == "terms::term" || f == "terms::kids" && to == f }
+function falls(f, to) { return to == "terms::readers::term" || f == "terms::readers::kids" && to == f }
 # the longest way from f on with k levels left
 function worst(f, k, best, n, i, to, w) {
     if (bad) return 0

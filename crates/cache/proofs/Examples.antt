@@ -8,12 +8,14 @@ use mathlib.Core.List.{List, [], _∷_, _++_}
 use lib.ListN.{length, replicate}
 use borrow.Author.Tests.{eq-eqb}
 use Rattle.fields.specs.Be.{be, beAt}
-use Rattle.fields.specs.Field.{holds, fieldAt}
-use Rattle.utf8.specs.Unicode.{scalar, encode, decode, starts, charBytes, goodFrom, goodBytes}
-use Rattle.rows.specs.Numbers as number
+use Rattle.fields.specs.Field.{holds, fieldAt, numberThen}
+use Rattle.utf8.specs.Unicode.{scalar, encode}
+use Rattle.utf8.specs.Inner.Find.{decode, starts, charBytes, goodFrom, goodBytes}
+use Rattle.numbers.specs.Numbers as number
 use Rattle.cache.specs.declared.Cache.{Cache}
 use Rattle.cache.specs.Names.{storeBytes, filled, marked, gotAt, partOf}
-use Rattle.cache.specs.Header.{Step, Said, refused, sized, named, nameAt, taken, halfOf, isNew, longBit, references, flagged, expect, headerOf, headerIn, markedAll}
+use Rattle.rows.specs.Row as row
+use Rattle.cache.specs.Header.{Step, Said, refused, named, nameAt, taken, halfOf, isNew, longBit, references, flagged, expect, headerOf, headerIn, markedAll}
 
 abbrev step : ℕ → List ℕ → Step
 step slot name = record { slot = slot; name = name }
@@ -55,7 +57,7 @@ pub record Examples : Type 0 where
   pub store : headerIn (130 ∷ []) 65535 ≡ refused number.Store 0
 
 pub examples : Examples
-unfolding headerIn headerOf expect flagged references longBit isNew halfOf taken nameAt named sized markedAll marked holds fieldAt beAt be goodBytes goodFrom charBytes decode scalar encode starts
+unfolding headerIn headerOf expect flagged references longBit isNew halfOf taken nameAt named numberThen row.name row.bytes markedAll marked holds fieldAt beAt be goodBytes goodFrom charBytes decode scalar encode starts
 examples = record {
   one = refl;
   long = refl;

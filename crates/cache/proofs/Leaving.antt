@@ -7,10 +7,10 @@ use mathlib.Core.Path.{_≡_, refl, sym}
 use mathlib.Core.List.{List}
 use mathlib.Core.Bool.{true, false}
 use lib.ListN.{length, getD, take, drop}
-use Rattle.rows.specs.Numbers as number
+use Rattle.numbers.specs.Numbers as number
 use Rattle.cache.specs.declared.Cache.{Cache}
 use Rattle.cache.specs.declared.Got.the-variants as got
-use Rattle.cache.specs.declared.Headed.{Headed}
+use Rattle.cache.specs.declared.HeaderRead.{HeaderRead}
 use Rattle.cache.specs.Names.{marked, stored}
 use Rattle.cache.specs.Header.{Said, ending, taken, isNew, nameAt, references, markedAll, storedAll, answered}
 use Rattle.cache.proofs.Reading.{gone, old, new}
@@ -21,16 +21,16 @@ pub record Leaves (whole : Said) (c₀ : Cache) (s₀ : List ℕ) (rest : Said) 
   pub store : storedAll (whole .steps) s₀ ≡ storedAll (rest .steps) s
 
 -- it leaves this answer and this store
-pub record Left (whole : Said) (c₀ : Cache) (s₀ : List ℕ) (r : Headed) (s : List ℕ) : Type 0 where
+pub record Left (whole : Said) (c₀ : Cache) (s₀ : List ℕ) (r : HeaderRead) (s : List ℕ) : Type 0 where
   pub answer : r ≡ answered whole c₀
   pub store : s ≡ storedAll (whole .steps) s₀
 
 -- and so does a reading that is the same
-pub follows : {whole next : Said} {c₀ : Cache} {s₀ : List ℕ} {r : Headed} {s : List ℕ} → whole ≡ next → Left next c₀ s₀ r s → Left whole c₀ s₀ r s
+pub follows : {whole next : Said} {c₀ : Cache} {s₀ : List ℕ} {r : HeaderRead} {s : List ℕ} → whole ≡ next → Left next c₀ s₀ r s → Left whole c₀ s₀ r s
 follows e l = rw e l
 
 -- the answer where no more names are completed
-abbrev ended : ℕ → ℕ → ℕ → Cache → Headed
+abbrev ended : ℕ → ℕ → ℕ → Cache → HeaderRead
 ended n x p c = record { number = n; rest = p; extra = x; cache = c }
 
 -- no name is completed at all

@@ -7,15 +7,16 @@ use mathlib.Core.List.{List, [], _∷_}
 use lib.Dec.{eqb, ltb}
 use lib.ListN.{length, take, drop, length-drop}
 use lib.Seq.{getD-drop, length-take-le}
-use Rattle.fields.specs.Field.{holds, fieldAt}
+use Rattle.numbers.specs.Caps as cap
+use Rattle.fields.specs.Field.{holds, fieldAt, numberThen}
 use Rattle.fields.specs.declared.Field.{Field}
 use Rattle.fields.specs.declared.Field.the-variants as field
 use Rattle.fields.proofs.Inverse.{is-below}
-use Rattle.rows.specs.Numbers as number
+use Rattle.numbers.specs.Numbers as number
 use Rattle.cache.specs.declared.Got.{Got}
 use Rattle.cache.specs.declared.Got.the-variants as got
 use Rattle.cache.specs.Names.{storeBytes, Held, name, view, updated}
-use Rattle.cache.specs.Header.{Step, Said, refused, sized, nameAt, taken, isNew, longBit, references, flagged, expect, headerOf, headerIn, markedAll, storedAll}
+use Rattle.cache.specs.Header.{Step, Said, refused, nameAt, taken, isNew, longBit, references, flagged, expect, headerOf, headerIn, markedAll, storedAll}
 use Rattle.cache.proofs.Below.{Below}
 use Rattle.cache.proofs.Marks.{marked-length}
 use Rattle.cache.proofs.Stores.{stored-length, stored-below}
@@ -69,11 +70,11 @@ module _ (b : List ℕ) (low : Below 256 b) where
   good-cond true s t h k = h
   good-cond false s t h k = k
 
-  good-sized : (k : ℕ) (f : ℕ → ℕ → Said) (p : ℕ) → ((n q : ℕ) → fieldAt k b p ≡ field.Is n → Good (f n q)) → Good (sized (refused number.Eof 0) k b f p)
-  unfolding sized
+  good-sized : (k : ℕ) (f : ℕ → ℕ → Said) (p : ℕ) → ((n q : ℕ) → fieldAt k b p ≡ field.Is n → Good (f n q)) → Good (numberThen (refused number.Eof 0) k b f p)
+  unfolding numberThen
   good-sized k f p h = go (fieldAt k b p) refl
     where
-      go : (x : Field) → fieldAt k b p ≡ x → Good (sized (refused number.Eof 0) k b f p)
+      go : (x : Field) → fieldAt k b p ≡ x → Good (numberThen (refused number.Eof 0) k b f p)
       go (field.Is n) e = rw e (h n (p + k) e)
       go field.Eof e = rw e none
 
@@ -98,7 +99,7 @@ module _ (b : List ℕ) (low : Below 256 b) where
   pub steps-fit : (n : ℕ) → Good (headerIn b n)
   unfolding headerIn headerOf expect flagged
   steps-fit n =
-      good-cond (eqb n storeBytes) _ _ (good-cond (ltb 16777216 (length b)) _ _ none
+      good-cond (eqb n storeBytes) _ _ (good-cond (ltb cap.input (length b)) _ _ none
       (good-sized 1 _ 0 (λ v p e. good-cond (eqb v 131) _ _
       (good-sized 1 _ p (λ t q e. good-cond (eqb t 68) _ _
       (good-sized 1 _ q (λ m f e. good-cond (eqb m 0) _ _ (good-references f 1 0 0 f)

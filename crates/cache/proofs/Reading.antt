@@ -5,82 +5,71 @@ use mathlib.Core.Path.{_≡_, refl, sym, _∙_}
 use mathlib.Core.List.{List}
 use mathlib.Core.Bool.{Bool, true, false, cond}
 use borrow.Author.Tests.{le-leb, lt-leb, leb-true, eq-eqb, ne-eqb, lt-ltb, le-ltb}
-use lib.Dec.{eqb, leb}
-use lib.ListN.{length, getD, take, drop}
-use Rattle.fields.specs.Field.{holds, fieldAt}
+use lib.Dec.{leb}
+use lib.ListN.{length, getD}
+use Rattle.numbers.specs.Caps as cap
+use Rattle.fields.specs.Field.{holds, fieldAt, numberThen}
 use Rattle.fields.specs.declared.Field.{Field}
 use Rattle.fields.specs.declared.Field.the-variants as field
-use Rattle.fields.proofs.Laws.{there, is-there, is-gone, field-is, field-eof, be-one}
-use Rattle.utf8.specs.Unicode.{goodBytes}
-use Rattle.rows.specs.Numbers as number
+use Rattle.fields.proofs.Laws.{is-there, is-gone, field-is, field-eof, then-is, then-eof, be-one}
+use Rattle.rows.specs.Row as row
+use Rattle.rows.specs.declared.Row.{Row}
+use Rattle.rows.specs.declared.Row.the-variants.{To, No}
+use Rattle.rows.proofs.Laws.{name-to}
+use Rattle.numbers.specs.Numbers as number
 use Rattle.cache.specs.declared.Got.the-variants as got
 use Rattle.cache.specs.Names.{storeBytes}
-use Rattle.cache.specs.Header.{Said, ending, refused, passed, sized, named, nameAt, taken, halfOf, isNew, longBit, references, flagged, expect, headerOf, headerIn}
-
--- a number that is there, and one that is not
-module _ {A : Type 0} (missing : A) (k : ℕ) (b : List ℕ) (f : ℕ → ℕ → A) (p : ℕ) where
-  pub sized-is : {n : ℕ} → fieldAt k b p ≡ field.Is n → sized missing k b f p ≡ f n (p + k)
-  unfolding sized
-  sized-is e = rw e
-
-  pub sized-eof : fieldAt k b p ≡ field.Eof → sized missing k b f p ≡ missing
-  unfolding sized
-  sized-eof e = rw e
+use Rattle.cache.specs.Header.{Said, ending, refused, passed, named, nameAt, taken, halfOf, isNew, longBit, references, flagged, expect, headerOf, headerIn}
 
 -- a byte
 module _ {A : Type 0} (missing : A) (b : List ℕ) (f : ℕ → ℕ → A) (p : ℕ) where
-  pub byte-is : p < length b → sized missing 1 b f p ≡ f (getD b p 0) (p + 1)
-  byte-is h = sized-is missing 1 b f p (sym (field-is 1 b p (is-there 1 b p (omega arith)) (sym (be-one b p h))))
+  pub byte-is : p < length b → numberThen missing 1 b f p ≡ f (getD b p 0) (p + 1)
+  byte-is h = then-is 1 b p missing f (sym (field-is 1 b p (is-there 1 b p (omega arith)) (sym (be-one b p h))))
 
-  pub byte-eof : length b ≤ p → sized missing 1 b f p ≡ missing
-  byte-eof h = sized-eof missing 1 b f p (sym (field-eof 1 b p (is-gone 1 b p (omega arith))))
+  pub byte-eof : length b ≤ p → numberThen missing 1 b f p ≡ missing
+  byte-eof h = then-eof 1 b p missing f (sym (field-eof 1 b p (is-gone 1 b p (omega arith))))
 
--- a name of n bytes
+-- a name of n bytes, by its row
 module _ (b : List ℕ) (n p : ℕ) where
-  pub name-gone : holds n b p ≡ false → got.No number.Eof ≡ named b n p
+  pub name-no : {x e : ℕ} → row.name b n p ≡ No x e → got.No x ≡ named b n p
   unfolding named
-  name-gone h = rw h
+  name-no h = rw h
 
-  module _ (h : holds n b p ≡ true) where
-    pub name-bad : (goodBytes (take n (drop p b)) ≡ n → ⊥) → got.No number.Text ≡ named b n p
+  module _ {e : ℕ} (h : row.name b n p ≡ To e) where
+    pub name-long : 255 < n → got.No number.Name ≡ named b n p
     unfolding named
-    name-bad g = rw (h, ne-eqb (goodBytes (take n (drop p b))) n g)
+    name-long l = rw (h, lt-leb n 255 l)
 
-    pub name-long : goodBytes (take n (drop p b)) ≡ n → 255 < n → got.No number.Name ≡ named b n p
+    pub name-good : n ≤ 255 → got.Name p n ≡ named b n p
     unfolding named
-    name-long g l = rw (h, eq-eqb (goodBytes (take n (drop p b))) n g, lt-leb n 255 l)
-
-    pub name-good : goodBytes (take n (drop p b)) ≡ n → n ≤ 255 → got.Name p n ≡ named b n p
-    unfolding named
-    name-good g l = rw (h, eq-eqb (goodBytes (take n (drop p b))) n g, le-leb n 255 l)
+    name-good l = rw (h, le-leb n 255 l)
 
 -- a name that was found lies in the input, and fits its slot
-pub record Found (b : List ℕ) (at n : ℕ) : Type 0 where
+pub record FoundName (b : List ℕ) (at n : ℕ) : Type 0 where
   pub inside : at + n ≤ length b
   pub short : n ≤ 255
 
 not-found : {P : Type 0} {x at n : ℕ} → got.No x ≡ got.Name at n → P
 not-found e = absurd (let z : _≡_ {A = ℕ} 0 1 = cc in omega arith)
 
-named-found : (b : List ℕ) (m p : ℕ) {at n : ℕ} → named b m p ≡ got.Name at n → Found b at n
+named-found : (b : List ℕ) (m p : ℕ) {at n : ℕ} → named b m p ≡ got.Name at n → FoundName b at n
 unfolding named
-named-found b m p {at} {n} e = go (holds m b p) refl (eqb (goodBytes (take m (drop p b))) m) refl (leb m 255) refl
+named-found b m p {at} {n} e = go (row.name b m p) refl (leb m 255) refl
   where
-    go : (t : Bool) → holds m b p ≡ t → (u : Bool) → eqb (goodBytes (take m (drop p b))) m ≡ u → (v : Bool) → leb m 255 ≡ v → Found b at n
-    go true x true y true z =
-        let f : got.Name p m ≡ got.Name at n = rw (x, y, z) at e in
+    go : (r : Row) → row.name b m p ≡ r → (v : Bool) → leb m 255 ≡ v → FoundName b at n
+    go (To q) x true z =
+        let f : got.Name p m ≡ got.Name at n = rw (x, z) at e in
         let h : at ≡ p = cc in
         let i : n ≡ m = cc in
-        record { inside = omega (arith, there m b p x); short = omega (arith, leb-true m 255 z) }
-    go true x true y false z = not-found {x = number.Name} (rw (x, y, z) at e)
-    go true x false y v z = not-found {x = number.Text} (rw (x, y) at e)
-    go false x u y v z = not-found {x = number.Eof} (rw x at e)
+        record { inside = omega (arith, name-to b m p x .1); short = omega (arith, leb-true m 255 z) }
+    go (To q) x false z = not-found {x = number.Name} (rw (x, z) at e)
+    go (No y d) x v z = not-found {x = y} (rw x at e)
 
-pub name-found : (b : List ℕ) (k p : ℕ) {at n : ℕ} → nameAt b k p ≡ got.Name at n → Found b at n
-unfolding nameAt sized
+pub name-found : (b : List ℕ) (k p : ℕ) {at n : ℕ} → nameAt b k p ≡ got.Name at n → FoundName b at n
+unfolding nameAt numberThen
 name-found b k p {at} {n} e = go (fieldAt k b p) refl
   where
-    go : (f : Field) → fieldAt k b p ≡ f → Found b at n
+    go : (f : Field) → fieldAt k b p ≡ f → FoundName b at n
     go (field.Is m) h = named-found b m (p + k) (rw h at e)
     go field.Eof h = not-found {x = number.Eof} (rw h at e)
 
@@ -143,7 +132,7 @@ module _ (b : List ℕ) (v : ℕ) (other more : ℕ → Said) (p : ℕ) where
 
 -- the header's first bytes, one by one: what stands behind the first and behind the second
 abbrev count : List ℕ → ℕ → Said
-count b = sized (refused number.Eof 0) 1 b (flagged b)
+count b = numberThen (refused number.Eof 0) 1 b (flagged b)
 
 abbrev kind : List ℕ → ℕ → Said
 kind b = expect b 68 (refused number.Kind) (count b)
@@ -154,14 +143,14 @@ module _ (b : List ℕ) (size : ℕ) where
   no-store e = rw (ne-eqb size storeBytes e)
 
   module _ (e : size ≡ storeBytes) where
-    pub too-long : 16777216 < length b → headerIn b size ≡ refused number.Long 0
+    pub too-long : cap.input < length b → headerIn b size ≡ refused number.Long 0
     unfolding headerIn headerOf
-    too-long l = rw (eq-eqb size storeBytes e, lt-ltb 16777216 (length b) l)
+    too-long l = rw (eq-eqb size storeBytes e, lt-ltb cap.input (length b) l)
 
-    module _ (l : length b ≤ 16777216) where
+    module _ (l : length b ≤ cap.input) where
       begins : headerIn b size ≡ expect b 131 (λ _. refused number.Tag 0) (kind b) 0
       unfolding headerIn headerOf
-      begins = rw (eq-eqb size storeBytes e, le-ltb 16777216 (length b) l)
+      begins = rw (eq-eqb size storeBytes e, le-ltb cap.input (length b) l)
 
       pub no-version : length b < 1 → headerIn b size ≡ refused number.Eof 0
       no-version h = begins ∙ expect-eof b 131 (λ _. refused number.Tag 0) (kind b) 0 (omega arith)

@@ -7,7 +7,7 @@ use mathlib.Core.List.{List}
 use borrow.Author.Tests.{eqb-true, eq-eqb, ne-eqb}
 use lib.Dec.{eqb}
 use lib.ListN.{length, getD}
-use Rattle.rows.specs.Numbers as number
+use Rattle.numbers.specs.Numbers as number
 use Rattle.cache.specs.Names.{slotBytes, storeBytes, filled, gotAt}
 use Rattle.cache.specs.declared.Got.{Got}
 use Rattle.cache.specs.declared.Got.the-variants as got

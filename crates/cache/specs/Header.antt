@@ -4,15 +4,16 @@ use mathlib.Core.List.{List, [], _∷_}
 use mathlib.Core.Bool.{Bool, cond}
 use lib.Dec.{eqb, leb, ltb}
 use lib.ListN.{length, getD, take, drop}
-use Rattle.fields.specs.Field.{holds, fieldAt}
-use Rattle.fields.specs.declared.Field.{Field}
-use Rattle.fields.specs.declared.Field.the-variants as field
-use Rattle.utf8.specs.Unicode.{goodBytes}
-use Rattle.rows.specs.Numbers as number
+use Rattle.numbers.specs.Caps as cap
+use Rattle.numbers.specs.Numbers as number
+use Rattle.fields.specs.Field.{holds, numberThen}
+use Rattle.rows.specs.Row as row
+use Rattle.rows.specs.declared.Row.{Row}
+use Rattle.rows.specs.declared.Row.the-variants.{To, No}
 use Rattle.cache.specs.declared.Cache.{Cache}
 use Rattle.cache.specs.declared.Got.{Got}
 use Rattle.cache.specs.declared.Got.the-variants as got
-use Rattle.cache.specs.declared.Headed.{Headed}
+use Rattle.cache.specs.declared.HeaderRead.{HeaderRead}
 use Rattle.cache.specs.Names.{marked, stored, storeBytes}
 
 -- a name that was completed, and its slot
@@ -36,14 +37,6 @@ ending n x p = record { steps = []; slots = []; number = n; extra = x; rest = p 
 abbrev pub refused : ℕ → ℕ → Said
 refused n x = ending n x 0
 
--- a number of k bytes, and what it says of what comes behind it; or what is answered where its bytes are missing
-unfoldable pub sized : {A : Type 0} → A → ℕ → List ℕ → (ℕ → ℕ → A) → ℕ → A
-sized {A} missing k b f p = go (fieldAt k b p)
-  where
-    go : Field → A
-    go (field.Is n) = f n (p + k)
-    go field.Eof = missing
-
 -- a reference passed, and a name completed
 abbrev pub passed : ℕ → Said → Said
 passed slot s = record { steps = s .steps; slots = slot ∷ s .slots; number = s .number; extra = s .extra; rest = s .rest }
@@ -53,14 +46,15 @@ completed slot n s = record { steps = record { slot = slot; name = n } ∷ s .st
 
 -- "Header names: Eof, Text, Name": a name of n bytes at p, its place and its length
 unfoldable pub named : List ℕ → ℕ → ℕ → Got
-named b n p =
-    cond (holds n b p)
-    (cond (eqb (goodBytes (take n (drop p b))) n) (cond (leb n 255) (got.Name p n) (got.No number.Name)) (got.No number.Text))
-    (got.No number.Eof)
+named b n p = go (row.name b n p)
+  where
+    go : Row → Got
+    go (To e) = cond (leb n 255) (got.Name p n) (got.No number.Name)
+    go (No x extra) = got.No x
 
 -- the same behind its length of k bytes
 unfoldable pub nameAt : List ℕ → ℕ → ℕ → Got
-nameAt b k p = sized (got.No number.Eof) k b (named b) p
+nameAt b k p = numberThen (got.No number.Eof) k b (named b) p
 
 -- a name that goes into a slot, and what comes behind it
 unfoldable pub taken : List ℕ → ℕ → (ℕ → Said) → Got → Said
@@ -83,7 +77,7 @@ longBit b f n = eqb (getD b (f + n / 2) 0 % 2) 1
 unfoldable pub references : List ℕ → (f wide : ℕ) → (i k p : ℕ) → Said
 references b f wide i zero p = ending 0 0 p
 references b f wide i (suc k) p =
-    sized (refused number.Eof 0) 1 b (λ slot q.
+    numberThen (refused number.Eof 0) 1 b (λ slot q.
     let more = references b f wide (i + 1) k in
     passed slot (cond (isNew b f i) (taken b slot more (nameAt b wide q)) (more q))) p
 
@@ -95,13 +89,13 @@ flagged b n f =
 
 -- a byte that has to be v, and what comes behind it; or what is said of another
 unfoldable pub expect : List ℕ → ℕ → (ℕ → Said) → (ℕ → Said) → ℕ → Said
-expect b v other more p = sized (refused number.Eof 0) 1 b (λ x q. cond (eqb x v) (more q) (other x)) p
+expect b v other more p = numberThen (refused number.Eof 0) 1 b (λ x q. cond (eqb x v) (more q) (other x)) p
 
 -- "Header: 131, 68, n". Another first byte is Tag, "wrong first byte"; another second byte is Kind, "not a header", with that byte
 unfoldable pub headerOf : List ℕ → Said
 headerOf b =
-    cond (ltb 16777216 (length b)) (refused number.Long 0)
-    (expect b 131 (λ _. refused number.Tag 0) (expect b 68 (refused number.Kind) (sized (refused number.Eof 0) 1 b (flagged b))) 0)
+    cond (ltb cap.input (length b)) (refused number.Long 0)
+    (expect b 131 (λ _. refused number.Tag 0) (expect b 68 (refused number.Kind) (numberThen (refused number.Eof 0) 1 b (flagged b))) 0)
 
 -- over a store of so many bytes: "Order: .. Store, Long, then reading left to right"
 unfoldable pub headerIn : List ℕ → ℕ → Said
@@ -117,5 +111,5 @@ storedAll [] store = store
 storedAll (s ∷ ss) store = storedAll ss (stored store (s .slot) (s .name))
 
 -- the answer
-abbrev pub answered : Said → Cache → Headed
+abbrev pub answered : Said → Cache → HeaderRead
 answered s c = record { number = s .number; rest = s .rest; extra = s .extra; cache = record { filled = markedAll (s .steps) (c .filled) } }

@@ -7,7 +7,7 @@ use lib.Count.{ones}
 use lib.Dec.{eqb}
 use lib.ListN.{length, getD, set, take, drop}
 use lib.Seq.{sets}
-use Rattle.rows.specs.Numbers as number
+use Rattle.numbers.specs.Numbers as number
 use Rattle.cache.specs.declared.Got.{Got}
 use Rattle.cache.specs.declared.Got.the-variants as got
 
@@ -60,6 +60,11 @@ gotAt words store i =
     cond (eqb (length store) storeBytes)
     (cond (filled words i) (got.Name (i * slotBytes + 1) (getD store (i * slotBytes) 0)) (got.No number.Absent))
     (got.No number.Store)
+
+-- what that comes to
+abbrev pub gotOutcome : Got → number.Outcome
+gotOutcome (got.Name at n) = number.done
+gotOutcome (got.No n) = number.refused n
 
 -- "a second call returns the name's part of the store, empty when refused"
 abbrev pub partOf : List ℕ → Got → List ℕ

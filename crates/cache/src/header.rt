@@ -4,10 +4,11 @@
 // parse_dist_header_with_cache in decoder.rs: see lib.rt.
 use crate::Cache;
 use crate::Got;
-use crate::Headed;
+use crate::HeaderRead;
 use crate::SLOT_BYTES;
 use crate::STORE_BYTES;
 use fields::Field;
+use rows::Row;
 ghost use mathlib.Core.Path.{_≡_};
 ghost use mathlib.Core.Bool.{cond};
 ghost use Prim.Native.Nat.{_+_, _/_, _<_, _≤_};
@@ -21,61 +22,61 @@ const FLAGS: usize = 3;
 // Reads an atom header, 131, 68, the count of references, flags and references, and answers where what follows it begins. Each new name
 // is stored when it is complete; a later fault keeps it. Refused: Store, Long, then Eof, Tag, Kind with that byte, and for a name Eof,
 // Text, Name.
-pub fn read(b: &[u8], c: Cache, store: &mut [u8]) -> Headed
-    ensures { λ r. ⌜ r ≡ said.answered (said.headerIn (now (b .entry)) (length (now (store .entry)))) c ⌝ }
-    ensures { λ _. ⌜ now (store .exit) ≡ said.storedAll (said.headerIn (now (b .entry)) (length (now (store .entry))) .steps) (now (store .entry)) ⌝ }
+pub fn read(b: &[u8], c: Cache, store: &mut [u8]) -> HeaderRead
+    ensures answer { λ r. ⌜ r ≡ said.answered (said.headerIn (now (b .entry)) (length (now (store .entry)))) c ⌝ }
+    ensures store { λ _. ⌜ now (store .exit) ≡ said.storedAll (said.headerIn (now (b .entry)) (length (now (store .entry))) .steps) (now (store .entry)) ⌝ }
 {
     if store.len() != STORE_BYTES {
-        return refusal(rows::STORE, 0, c);
+        return refusal(numbers::STORE, 0, c);
     }
-    if 16777216 < b.len() {
-        return refusal(rows::LONG, 0, c);
+    if numbers::INPUT < b.len() {
+        return refusal(numbers::LONG, 0, c);
     }
     if b.len() < 1 {
-        return refusal(rows::EOF, 0, c);
+        return refusal(numbers::EOF, 0, c);
     }
     if b[0] != 131 {
-        return refusal(rows::TAG, 0, c);
+        return refusal(numbers::TAG, 0, c);
     }
     if b.len() < 2 {
-        return refusal(rows::EOF, 0, c);
+        return refusal(numbers::EOF, 0, c);
     }
     if b[1] != 68 {
-        return refusal(rows::KIND, b[1] as u64, c);
+        return refusal(numbers::KIND, b[1] as u64, c);
     }
     if b.len() < 3 {
-        return refusal(rows::EOF, 0, c);
+        return refusal(numbers::EOF, 0, c);
     }
     flagged(b, b[2] as usize, c, store)
 }
 
 // n references, with flags before them where there are any.
-fn flagged(b: &[u8], n: usize, c: Cache, store: &mut [u8]) -> Headed
+fn flagged(b: &[u8], n: usize, c: Cache, store: &mut [u8]) -> HeaderRead
     requires { ⌜ (n < 256) × (length (now store) ≡ storeBytes) ⌝ }
-    ensures { λ r. ⌜ r ≡ said.answered (said.flagged (now (b .entry)) n 3) c ⌝ }
-    ensures { λ _. ⌜ now (store .exit) ≡ said.storedAll (said.flagged (now (b .entry)) n 3 .steps) (now (store .entry)) ⌝ }
+    ensures answer { λ r. ⌜ r ≡ said.answered (said.flagged (now (b .entry)) n 3) c ⌝ }
+    ensures store { λ _. ⌜ now (store .exit) ≡ said.storedAll (said.flagged (now (b .entry)) n 3 .steps) (now (store .entry)) ⌝ }
 {
     if n == 0 {
         return answer(FLAGS, c);
     }
     if !fields::has(b, FLAGS, n / 2 + 1) {
-        return refusal(rows::EOF, 0, c);
+        return refusal(numbers::EOF, 0, c);
     }
     references(b, n, is_long(b, n), c, store)
 }
 
 // The references behind the flags; a length has two bytes where `long`, else one.
-fn references(b: &[u8], n: usize, long: bool, c: Cache, store: &mut [u8]) -> Headed
+fn references(b: &[u8], n: usize, long: bool, c: Cache, store: &mut [u8]) -> HeaderRead
     requires { ⌜ (n < 256) × ((3 + (n / 2 + 1) ≤ length (now b)) × (length (now store) ≡ storeBytes)) ⌝ }
-    ensures { λ r. ⌜ r ≡ said.answered (said.references (now (b .entry)) 3 (cond long 2 1) 0 n (3 + (n / 2 + 1))) c ⌝ }
-    ensures { λ _. ⌜ now (store .exit) ≡ said.storedAll (said.references (now (b .entry)) 3 (cond long 2 1) 0 n (3 + (n / 2 + 1)) .steps) (now (store .entry)) ⌝ }
+    ensures answer { λ r. ⌜ r ≡ said.answered (said.references (now (b .entry)) 3 (cond long 2 1) 0 n (3 + (n / 2 + 1))) c ⌝ }
+    ensures store { λ _. ⌜ now (store .exit) ≡ said.storedAll (said.references (now (b .entry)) 3 (cond long 2 1) 0 n (3 + (n / 2 + 1)) .steps) (now (store .entry)) ⌝ }
 {
     let mut cache = c;
     let mut p = FLAGS + (n / 2 + 1);
     let mut i = 0;
     while i < n {
         if b.len() <= p {
-            return refusal(rows::EOF, 0, cache);
+            return refusal(numbers::EOF, 0, cache);
         }
         let slot = b[p] as usize;
         if !is_new(b, i) {
@@ -129,13 +130,13 @@ fn name_at(b: &[u8], long: bool, p: usize) -> Got
         let f = fields::be_u16(b, p);
         match f {
             Field::Is(n) => name(b, n as usize, p + 2),
-            Field::Eof => Got::No(rows::EOF),
+            Field::Eof => Got::No(numbers::EOF),
         }
     } else {
         let f = fields::be_u8(b, p);
         match f {
             Field::Is(n) => name(b, n as usize, p + 1),
-            Field::Eof => Got::No(rows::EOF),
+            Field::Eof => Got::No(numbers::EOF),
         }
     }
 }
@@ -143,17 +144,16 @@ fn name_at(b: &[u8], long: bool, p: usize) -> Got
 fn name(b: &[u8], n: usize, p: usize) -> Got
     ensures { λ r. ⌜ r ≡ said.named (now (b .entry)) n p ⌝ }
 {
-    if !fields::has(b, p, n) {
-        return Got::No(rows::EOF);
+    let row = rows::name(b, n, p);
+    match row {
+        Row::To(_) => {
+            if 255 < n {
+                return Got::No(numbers::NAME);
+            }
+            Got::Name(p, n)
+        }
+        Row::No(x, _) => Got::No(x),
     }
-    let end = p + n;
-    if utf8::good(&b[p..end]) != n {
-        return Got::No(rows::TEXT);
-    }
-    if 255 < n {
-        return Got::No(rows::NAME);
-    }
-    Got::Name(p, n)
 }
 
 // Stores a name in its slot: its length and its bytes.
@@ -180,10 +180,10 @@ fn mark(filled: &mut [u64; 4], slot: usize)
 }
 
 // What a header answers that is read to its end, and one that is refused.
-fn answer(rest: usize, c: Cache) -> Headed
+fn answer(rest: usize, c: Cache) -> HeaderRead
     ensures { λ r. ⌜ r ≡ record { number = 0; rest = rest; extra = 0; cache = c } ⌝ }
 {
-    Headed {
+    HeaderRead {
         number: 0,
         rest,
         extra: 0,
@@ -191,10 +191,10 @@ fn answer(rest: usize, c: Cache) -> Headed
     }
 }
 
-fn refusal(number: u64, extra: u64, c: Cache) -> Headed
+fn refusal(number: u64, extra: u64, c: Cache) -> HeaderRead
     ensures { λ r. ⌜ r ≡ record { number = number; rest = 0; extra = extra; cache = c } ⌝ }
 {
-    Headed {
+    HeaderRead {
         number,
         rest: 0,
         extra,

@@ -30,7 +30,7 @@ pub enum Got {
 }
 
 // What a header answers: the number (0 is Done), where the rest begins (0 when refused), the extra, and the cache's record now.
-pub struct Headed {
+pub struct HeaderRead {
     pub number: u64,
     pub rest: usize,
     pub extra: u64,
@@ -59,13 +59,13 @@ pub fn get(c: Cache, store: &[u8], slot: u8) -> Got
     ensures { λ r. ⌜ r ≡ spec.gotAt (c .filled) (now (store .entry)) slot ⌝ }
 {
     if store.len() != STORE_BYTES {
-        return Got::No(rows::STORE);
+        return Got::No(numbers::STORE);
     }
     let i = slot as usize;
     let words = c.filled;
     let word = words[i / 64];
     if (word >> (i % 64)) % 2 != 1 {
-        return Got::No(rows::ABSENT);
+        return Got::No(numbers::ABSENT);
     }
     let at = i * SLOT_BYTES;
     Got::Name(at + 1, store[at] as usize)

@@ -1,6 +1,6 @@
 // Our calls on terms and text, and their answers as text.
-use terms::Answer;
-use terms::Segment;
+use reading::Answer;
+use reading::Segment;
 
 // How many leading bytes form whole good characters.
 pub fn utf8(b: &[u8], out: &mut [u8], at: usize) -> usize {
@@ -78,7 +78,7 @@ pub fn rest(number: u64, rest: usize, extra: u64, out: &mut [u8], at: usize) -> 
     print::field(out, put, b" extra=", extra)
 }
 
-pub fn path(segments: [Segment; 64], len: usize, out: &mut [u8], at: usize) -> usize {
+pub fn path(segments: [Segment; numbers::NESTING], len: usize, out: &mut [u8], at: usize) -> usize {
     let put = print::text(out, at, b" path=");
     print::path(out, put, segments, len)
 }

@@ -1,20 +1,19 @@
 // A record read with its tape: its value by its cells, or the cells themselves, as text.
 use crate::answers;
 use crate::values;
-use terms::Answer;
+use reading::Answer;
+use tape::CELL;
 ghost use mathlib.Core.Path.{_≡_};
 ghost use Prim.Native.Nat.{_*_, _≤_};
 ghost use lib.ListN.{length};
-
-// The words of a cell.
-pub const CELL: usize = 5;
+ghost use Rattle.tape.specs.Cells.{cellWords};
 
 // What each word of the run holds before it is read into. No cell has such a word.
 const BLANK: u32 = 4294967295;
 
 // Byte 131, one term, and nothing behind it, with the record's value. The run has room for every term of a request.
 pub fn term(b: &[u8], run: &mut [u32], out: &mut [u8], at: usize) -> usize {
-    let a = tape::read(b, 64, run);
+    let a = tape::read(b, numbers::NESTING, run);
     if a.number == 0 {
         let n = CELL * a.begun;
         return values::row(b, &run[..n], out, at);
@@ -47,7 +46,7 @@ fn filled(b: &[u8], limit: usize, run: &mut [u32], out: &mut [u8], at: usize) ->
 
 // The answer; behind it the cells of a Done read, and how many words of the run are as they were.
 fn shown(a: Answer, run: &[u32], out: &mut [u8], at: usize) -> usize
-    requires { ⌜ ((a .number ≡ 0) → (5 * a .begun ≤ length (now run))) ⌝ }
+    requires { ⌜ ((a .number ≡ 0) → (cellWords * a .begun ≤ length (now run))) ⌝ }
 {
     let told = answers::fault(a.number, a.offset, a.extra, out, at);
     let counted = answers::counts(a.begun, a.deepest, out, told);
@@ -58,7 +57,7 @@ fn shown(a: Answer, run: &[u32], out: &mut [u8], at: usize) -> usize
 }
 
 fn cells(number: u64, begun: usize, run: &[u32], out: &mut [u8], at: usize) -> usize
-    requires { ⌜ ((number ≡ 0) → (5 * begun ≤ length (now run))) ⌝ }
+    requires { ⌜ ((number ≡ 0) → (cellWords * begun ≤ length (now run))) ⌝ }
 {
     let put = print::text(out, at, b" cells=");
     if number != 0 {

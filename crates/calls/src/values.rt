@@ -1,7 +1,7 @@
 // What heads say, as text: a record's value as a row of items, one for each of its terms, and a single head (docs/REQUESTS.md).
-use crate::cells::CELL;
 use fields::Field;
 use heads::Value;
+use tape::CELL;
 ghost use Prim.Native.Nat.{_≤_, _+_};
 ghost use lib.ListN.{length};
 
@@ -133,7 +133,7 @@ fn id(b: &[u8], place: usize, out: &mut [u8], at: usize) -> usize {
 
 // The place behind an id. None begins past a record's end.
 fn next(place: usize) -> usize {
-    if place < 16777216 {
+    if place < numbers::INPUT {
         return place + 4;
     }
     place

@@ -2,12 +2,13 @@
 use Prim.Native.Nat.{ℕ, zero, suc, _+_, _*_, _^_, _/_, _%_, _<_}
 use native.Mathlib.Nat.{add-zero, pow-suc, one-le-pow, mul-le-mul-right, mod-lt, mod-eq-of-lt, div-eq-of-lt, div-add-mod', mul-add-div-right, mul-add-mod-self-right}
 use native.Mathlib.Omega.{arith}
-use mathlib.Core.Path.{_≡_, refl, ap, subst}
+use mathlib.Core.Path.{_≡_, refl, ap, sym, subst, _∙_}
 use mathlib.Core.List.{List, [], _∷_}
 use lib.ListN.{length, getD, take, drop, length-drop}
 use lib.Seq.{length-take-le, getD-drop}
 use Rattle.fields.specs.Be.{be, beAt, bytesOf, Bytes, none, more}
-use Rattle.fields.specs.Field.{fieldAt}
+use Rattle.fields.specs.Field.{fieldAt, known, numberAt}
+use Rattle.fields.specs.declared.Field.{Field}
 use Rattle.fields.specs.declared.Field.the-variants as field
 use Rattle.fields.proofs.Laws.{is-whole}
 
@@ -58,3 +59,13 @@ is-below k b at {n} h e =
     let r : Bytes (take k (drop at b)) = taken k (bytes-of (drop at b) (λ i. rw getD-drop (h (at + i)))) in
     let l : length (take k (drop at b)) ≡ k = length-take-le k (drop at b) (simp length-drop (omega arith)) in
     rw (w .1) (subst (λ (m : ℕ). be (take k (drop at b)) < 256 ^ m) l (be-below r))
+
+-- a number that was read, with a bound by its width
+pub number-is : (k : ℕ) (b : List ℕ) (at : ℕ) {f : Field} {r : ℕ} → ((i : ℕ) → getD b i 0 < 256) → f ≡ fieldAt k b at → r ≡ known f → (r ≡ numberAt k b at) × (r < 256 ^ k)
+number-is k b at {f} {r} h e q =
+    let i : r ≡ numberAt k b at = q ∙ ap known e in
+    (i, subst (λ (n : ℕ). n < 256 ^ k) (sym i) (go (fieldAt k b at) refl))
+  where
+    go : (f : Field) → fieldAt k b at ≡ f → known f < 256 ^ k
+    go (field.Is n) e = is-below k b at h e
+    go field.Eof e = one-le-pow k 256 (omega arith)

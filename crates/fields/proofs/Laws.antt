@@ -1,23 +1,27 @@
 -- Laws of the definitions of specs/, for the proofs here and in the crates above. Assumes nothing.
-use Prim.Native.Nat.{ℕ, zero, suc, _+_, _*_, _^_, _<_, _≤_}
+use Prim.Native.Nat.{ℕ, zero, suc, _+_, _-_, _*_, _^_, _<_, _≤_}
 use native.Mathlib.Nat.{pow-zero, mul-assoc, add-mul, add-assoc, mul-comm}
 use native.Mathlib.Numerals.{add-one}
 use native.Mathlib.Omega.{arith}
 use mathlib.Core.Path.{_≡_, refl, ap, sym, _∙_}
+use mathlib.Core.Logic.{_↔_}
 use mathlib.Core.List.{List, [], _∷_, _++_}
 use lib.ListN.{length, take, drop, getD, length-append, length-drop}
 use lib.Pow.{pow-add}
 use lib.Dec.{leb}
-use lib.IntN.{ℤ, pos, _-ℤ_}
+use lib.IntN.{ℤ, pos, negsuc, _-ℤ_}
 use lib.Signed.{mag}
 use mir.Syntax.{w64}
 use mir.Val.{toZ}
 use borrow.Author.Tests.{leb-true, leb-false, le-leb, lt-leb, lt-ltb, le-ltb}
 use mathlib.Core.Bool.{Bool, true, false, cond}
 use lib.Seq.{length-take-le, take-add, drop-drop, drop-cons}
+use Rattle.numbers.specs.Numbers.{among, Shown}
 use Rattle.fields.specs.Be.{be, beAt, signed}
-use Rattle.fields.specs.Field.{holds, fieldAt, integerAt}
+use Rattle.fields.specs.Field.{holds, fieldAt, integerAt, numberThen, known, numberAt, fieldOutcome, integerOutcome}
+use Rattle.fields.specs.declared.Field.{Field}
 use Rattle.fields.specs.declared.Field.the-variants as field
+use Rattle.fields.specs.declared.Integer.{Integer}
 use Rattle.fields.specs.declared.Integer.the-variants as integer
 
 -- a run behind another is worth its own number, and shifts the first by its bytes
@@ -68,6 +72,29 @@ module _ (k : ℕ) (b : List ℕ) (at : ℕ) where
       go true h = let f : field.Is (beAt k b at) ≡ field.Is n = rw h at e in (there h, (cc))
       go false h = let f : field.Eof ≡ field.Is n = rw h at e in absurd (let z : _≡_ {A = ℕ} 0 1 = cc in omega arith)
 
+  -- a number that is known to be there
+  pub at-there : at + k ≤ length b → numberAt k b at ≡ beAt k b at
+  unfolding fieldAt
+  at-there h = rw (is-there h)
+
+  -- what comes behind a number that is there, and what is said where it isn't
+  module _ {A : Type 0} (missing : A) (f : ℕ → ℕ → A) where
+    pub then-is : {n : ℕ} → fieldAt k b at ≡ field.Is n → numberThen missing k b f at ≡ f n (at + k)
+    unfolding numberThen
+    then-is e = rw e
+
+    pub then-eof : fieldAt k b at ≡ field.Eof → numberThen missing k b f at ≡ missing
+    unfolding numberThen
+    then-eof e = rw e
+
+    -- what both of these have, it has
+    pub by-then : (P : A → Type 0) → P missing → ((n : ℕ) → P (f n (at + k))) → P (numberThen missing k b f at)
+    by-then P h m = go (fieldAt k b at) refl
+      where
+        go : (x : Field) → fieldAt k b at ≡ x → P (numberThen missing k b f at)
+        go (field.Is n) e = rw (then-is e) (m n)
+        go field.Eof e = rw (then-eof e) h
+
 module _ (b : List ℕ) (at : ℕ) where
   pub integer-is : holds 4 b at ≡ true → {z : ℤ} → z ≡ signed (beAt 4 b at) → integer.Is z ≡ integerAt b at
   unfolding integerAt
@@ -77,7 +104,36 @@ module _ (b : List ℕ) (at : ℕ) where
   unfolding integerAt
   integer-eof h = rw h
 
--- two's complement of 4 bytes, as the code's i64 has it
+-- their one refusal is in the list
+pub field-shown : (x : Field) → Shown (fieldOutcome x)
+unfolding among
+field-shown (field.Is n) = tt
+field-shown field.Eof = refl
+
+pub integer-shown : (x : Integer) → Shown (integerOutcome x)
+unfolding among
+integer-shown (integer.Is z) = tt
+integer-shown integer.Eof = refl
+
+-- two's complement of 4 bytes: 0 or more just where the number as it stands is at most 2 ^ 31 - 1, and else negative
+module _ (n : ℕ) (fits : n < 4294967296) where
+  pub signed-negative : 2147483647 < n → signed n ≡ negsuc (4294967295 - n)
+  unfolding signed
+  signed-negative h =
+      let e : 4294967296 - suc n ≡ 4294967295 - n = omega arith in
+      rw (le-ltb n 2147483648 (omega arith), lt-ltb n 4294967296 fits, e)
+
+  pub signed-natural : (n ≤ 2147483647) ↔ (signed n ≡ pos n)
+  unfolding signed
+  signed-natural = (λ h. rw (lt-ltb n 2147483648 (omega arith)), λ e. go e (leb n 2147483647) refl)
+    where
+      go : signed n ≡ pos n → (x : Bool) → leb n 2147483647 ≡ x → n ≤ 2147483647
+      go e true h = leb-true _ _ h
+      go e false h =
+          let f : negsuc (4294967295 - n) ≡ pos n = sym (signed-negative (leb-false _ _ h)) ∙ e in
+          absurd (let z : _≡_ {A = ℕ} 0 1 = cc in omega arith)
+
+-- the same as the code's i64 has it
 module _ (n : ℕ) (fits : n < 4294967296) where
   pub positive : toZ w64 n ≡ pos n
   positive = rw (lt-ltb n (2 ^ 63) (omega arith))

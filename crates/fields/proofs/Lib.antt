@@ -1,3 +1,4 @@
 pub mod Laws
 pub mod Inverse
+pub mod Digits
 pub mod Signs

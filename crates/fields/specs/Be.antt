@@ -1,4 +1,5 @@
--- Numbers as the format writes them: "Numbers are big-endian" (document 01). Definitions over lists of bytes alone.
+-- Numbers as the format writes them: "Numbers are big-endian" (document 01), and the digits of a big integer are "least first". Definitions
+-- over lists of bytes alone.
 use Prim.Native.Nat.{ℕ, zero, suc, _+_, _*_, _^_, _/_, _%_, _<_}
 use mathlib.Core.List.{List, [], _∷_}
 use mathlib.Core.Bool.{cond}
@@ -10,6 +11,11 @@ use lib.IntN.{ℤ, pos, subℕ}
 unfoldable pub be : List ℕ → ℕ
 be [] = 0
 be (x ∷ s) = x * 256 ^ length s + be s
+
+-- "digit bytes, least first" (110 and 111): the number that they spell, the first byte worth least
+unfoldable pub le : List ℕ → ℕ
+le [] = 0
+le (x ∷ s) = x + 256 * le s
 
 -- a number below 256 ^ k in k bytes, the one worth most first
 unfoldable pub bytesOf : ℕ → ℕ → List ℕ

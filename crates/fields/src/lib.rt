@@ -1,7 +1,8 @@
 // Numbers in the input: big-endian, of 1, 2, 4 and 8 bytes, and two's complement of 4.
 //
 // Each public function answers for every slice and every place in it or past it, so that a reader above asks once and takes
-// the answer apart: the number, or Eof where its bytes are not all there. What a number means is the reader's matter.
+// the answer apart: the number, or Eof where its bytes are not all there. Where they are known to be there, the readers named `_at` give
+// the number alone. What a number means is the reader's matter.
 //
 // Changed from the uses of nom's be_u8, be_u16, be_u32, be_u64, be_i32 and take in decoder.rs (michaelklishin/edp-rs, fc07dcb95d),
 // Copyright (C) 2025-2026 Michael S. Klishin and Contributors, Apache-2.0: see NOTICE.
@@ -9,7 +10,7 @@ ghost use mathlib.Core.Path.{_≡_};
 ghost use Prim.Native.Nat.{_+_, _<_, _≤_};
 ghost use lib.ListN.{length};
 ghost use Rattle.fields.specs.Be.{beAt, signed};
-ghost use Rattle.fields.specs.Field.{holds, fieldAt, integerAt};
+ghost use Rattle.fields.specs.Field.{holds, fieldAt, integerAt, known, numberAt};
 
 pub enum Field {
     Is(u64),
@@ -83,6 +84,46 @@ pub fn be_i32(b: &[u8], at: usize) -> Integer
         Integer::Is(two_complement(word(b, at)))
     } else {
         Integer::Eof
+    }
+}
+
+// The number alone, 0 where its bytes are not all there.
+pub fn u8_at(b: &[u8], at: usize) -> u64
+    ensures { λ r. ⌜ (r ≡ numberAt 1 (now (b .entry)) at) × (r < 256) ⌝ }
+{
+    known(be_u8(b, at))
+}
+
+pub fn u16_at(b: &[u8], at: usize) -> u64
+    ensures { λ r. ⌜ (r ≡ numberAt 2 (now (b .entry)) at) × (r < 65536) ⌝ }
+{
+    known(be_u16(b, at))
+}
+
+pub fn u32_at(b: &[u8], at: usize) -> u64
+    ensures { λ r. ⌜ (r ≡ numberAt 4 (now (b .entry)) at) × (r < 4294967296) ⌝ }
+{
+    known(be_u32(b, at))
+}
+
+pub fn u64_at(b: &[u8], at: usize) -> u64
+    ensures { λ r. ⌜ r ≡ numberAt 8 (now (b .entry)) at ⌝ }
+{
+    known(be_u64(b, at))
+}
+
+pub fn i32_at(b: &[u8], at: usize) -> i64
+    ensures { λ r. ⌜ r ≡ signed (numberAt 4 (now (b .entry)) at) ⌝ }
+{
+    two_complement(u32_at(b, at))
+}
+
+fn known(f: Field) -> u64
+    ensures { λ r. ⌜ r ≡ known f ⌝ }
+{
+    match f {
+        Field::Is(n) => n,
+        Field::Eof => 0,
     }
 }
 

@@ -5,22 +5,13 @@ use mathlib.Core.List.{List}
 use mathlib.Core.Bool.{cond}
 use lib.Dec.{eqb, ltb}
 use lib.ListN.{length}
-use Rattle.fields.specs.Field.{fieldAt}
-use Rattle.fields.specs.declared.Field.{Field}
-use Rattle.fields.specs.declared.Field.the-variants as field
-use Rattle.rows.specs.Numbers as number
+use Rattle.numbers.specs.Caps as cap
+use Rattle.fields.specs.Field.{numberThen}
+use Rattle.numbers.specs.Numbers as number
 use Rattle.fragments.specs.declared.FirstFragment.{FirstFragment}
 use Rattle.fragments.specs.declared.NextFragment.{NextFragment}
 use Rattle.fragments.specs.declared.Opening.{Opening}
 use Rattle.fragments.specs.declared.Opening.the-variants as opening
-
--- a number of k bytes at p, and what is answered by it; where a byte of it is missing, what is answered then
-unfoldable pub read : {A : Type 0} → ℕ → List ℕ → ℕ → (ℕ → A) → A → A
-read {A} k b p f missing = go (fieldAt k b p)
-  where
-    go : Field → A
-    go (field.Is n) = f n
-    go field.Eof = missing
 
 -- Eof: "bytes missing"
 abbrev pub missing : Opening
@@ -28,17 +19,17 @@ missing = opening.No number.Eof 0
 
 -- one byte at p that has to be x, and what comes behind it; another is refused as n, whose extra is "that byte"
 unfoldable pub must : List ℕ → (p x n : ℕ) → Opening → Opening
-must b p x n more = read 1 b p (λ y. cond (eqb y x) more (opening.No n y)) missing
+must b p x n more = numberThen missing 1 b (λ y q. cond (eqb y x) more (opening.No n y)) p
 
 -- "two 8-byte numbers"
 unfoldable pub numbers : List ℕ → Opening
-numbers b = read 8 b 2 (λ s. read 8 b 10 (opening.Numbers s) missing) missing
+numbers b = numberThen missing 8 b (λ s p. numberThen missing 8 b (λ f q. opening.Numbers s f) p) 2
 
 -- what both begin with: "131, tag .., two 8-byte numbers". "Long, then reading left to right"; Version: "fragment's first byte; that
 -- byte"; Kind: "not a .. fragment ..; the tag"
 unfoldable pub opened : ℕ → List ℕ → Opening
 opened tag b =
-    cond (ltb 16777216 (length b)) (opening.No number.Long 0)
+    cond (ltb cap.input (length b)) (opening.No number.Long 0)
     (must b 0 131 number.Version (must b 1 tag number.Kind (numbers b)))
 
 -- "fragment answers give the rest's offset, 0 when refused"; the values of a refused one are 0 too
@@ -54,7 +45,7 @@ firstAt b = go (opened 69 b)
   where
     go : Opening → FirstFragment
     go (opening.Numbers s f) =
-        read 1 b 18 (λ n. record { number = 0; extra = 0; rest = 19; sequence = s; fragment = f; count = n }) (noFirst number.Eof 0)
+        numberThen (noFirst number.Eof 0) 1 b (λ n p. record { number = number.Done; extra = 0; rest = p; sequence = s; fragment = f; count = n }) 18
     go (opening.No n x) = noFirst n x
 
 -- "131, tag 70, two 8-byte numbers, rest at 18"
@@ -62,5 +53,5 @@ unfoldable pub nextAt : List ℕ → NextFragment
 nextAt b = go (opened 70 b)
   where
     go : Opening → NextFragment
-    go (opening.Numbers s f) = record { number = 0; extra = 0; rest = 18; sequence = s; fragment = f }
+    go (opening.Numbers s f) = record { number = number.Done; extra = 0; rest = 18; sequence = s; fragment = f }
     go (opening.No n x) = noNext n x

@@ -48,7 +48,7 @@ pub fn first(b: &[u8]) -> FirstFragment
     match o {
         Opening::Numbers(sequence, fragment) => {
             let Field::Is(count) = fields::be_u8(b, 18) else {
-                return no_first(rows::EOF, 0);
+                return no_first(numbers::EOF, 0);
             };
             FirstFragment {
                 number: 0,
@@ -103,20 +103,20 @@ fn no_first(number: u64, extra: u64) -> FirstFragment
 fn opened(b: &[u8], tag: u64) -> Opening
     ensures { λ r. ⌜ r ≡ spec.opened tag (now (b .entry)) ⌝ }
 {
-    if 16777216 < b.len() {
-        return Opening::No(rows::LONG, 0);
+    if numbers::INPUT < b.len() {
+        return Opening::No(numbers::LONG, 0);
     }
     let Field::Is(version) = fields::be_u8(b, 0) else {
-        return Opening::No(rows::EOF, 0);
+        return Opening::No(numbers::EOF, 0);
     };
     if version != 131 {
-        return Opening::No(rows::VERSION, version);
+        return Opening::No(numbers::VERSION, version);
     }
     let Field::Is(kind) = fields::be_u8(b, 1) else {
-        return Opening::No(rows::EOF, 0);
+        return Opening::No(numbers::EOF, 0);
     };
     if kind != tag {
-        return Opening::No(rows::KIND, kind);
+        return Opening::No(numbers::KIND, kind);
     }
     numbers(b)
 }
@@ -125,10 +125,10 @@ fn numbers(b: &[u8]) -> Opening
     ensures { λ r. ⌜ r ≡ spec.numbers (now (b .entry)) ⌝ }
 {
     let Field::Is(sequence) = fields::be_u64(b, 2) else {
-        return Opening::No(rows::EOF, 0);
+        return Opening::No(numbers::EOF, 0);
     };
     let Field::Is(fragment) = fields::be_u64(b, 10) else {
-        return Opening::No(rows::EOF, 0);
+        return Opening::No(numbers::EOF, 0);
     };
     Opening::Numbers(sequence, fragment)
 }

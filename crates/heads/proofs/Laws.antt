@@ -1,40 +1,17 @@
--- Numbers that are there, which answers name a run of bytes, and what the last arm of a match on an answer says. Assumes nothing.
-use Prim.Native.Nat.{ℕ, _+_, _≤_}
-use native.Mathlib.Omega.{arith}
+-- Which answers name a run of bytes, and what the last arm of a match on an answer says. Assumes nothing.
+use Prim.Native.Nat.{ℕ}
 use mathlib.Core.Path.{_≡_, refl}
 use mathlib.Core.List.{List, [], _∷_}
-use lib.IntN.{ℤ}
-use lib.ListN.{length}
 use denote.Enum.Declared.{tagOf}
 use types.Run.{OneOf, miss}
-use Rattle.fields.specs.Be.{beAt, signed}
-use Rattle.fields.specs.Field.{fieldAt, integerAt}
-use Rattle.fields.specs.declared.Field.the-variants as field
-use Rattle.fields.specs.declared.Integer.the-variants as integer
-use Rattle.fields.proofs.Laws.{is-there, field-is, integer-is}
-use Rattle.heads.specs.Head.{none, runOf, named, partOf}
+use Rattle.heads.specs.Run.{none, runOf, partOf}
+use Rattle.heads.specs.Inner.Head.{named}
 use Rattle.heads.specs.declared.Value.{Value}
 use Rattle.heads.specs.declared.Value.the-variants as value
 use Rattle.heads.proofs.Value.{the-type}
 
-pub not-eof : (k : ℕ) (b : List ℕ) (p : ℕ) → p + k ≤ length b → fieldAt k b p ≡ field.Eof → ⊥
-not-eof k b p h e =
-    let f = field-is k b p (is-there k b p h) refl in
-    let z : _≡_ {A = ℕ} 0 1 = cc in
-    omega arith
-
-module _ (b : List ℕ) (p : ℕ) (h : p + 4 ≤ length b) where
-  pub integer-there : {z : ℤ} → integerAt b p ≡ integer.Is z → z ≡ signed (beAt 4 b p)
-  integer-there e = let f = integer-is b p (is-there 4 b p h) refl in cc
-
-  pub integer-not-eof : integerAt b p ≡ integer.Eof → ⊥
-  integer-not-eof e =
-      let f = integer-is b p (is-there 4 b p h) refl in
-      let z : _≡_ {A = ℕ} 0 1 = cc in
-      omega arith
-
--- an answer is an atom's, a binary's, or has no run
-module _ (P : Value → Type 0) (atom : (s n : ℕ) → P (value.Atom s n)) (binary : (s n : ℕ) → P (value.Binary s n)) (other : (v : Value) → runOf v ≡ none → P v) where
+-- an answer is an atom's, a binary's, a refusal, or none of these
+module _ (P : Value → Type 0) (atom : (s n : ℕ) → P (value.Atom s n)) (binary : (s n : ℕ) → P (value.Binary s n)) (no : (n o x : ℕ) → P (value.No n o x)) (other : (v : Value) → runOf v ≡ none → P v) where
   pub by-run : (v : Value) → P v
   by-run (value.Atom s n) = atom s n
   by-run (value.Binary s n) = binary s n
@@ -53,7 +30,7 @@ module _ (P : Value → Type 0) (atom : (s n : ℕ) → P (value.Atom s n)) (bin
   by-run (value.Port p n i j) = other (value.Port p n i j) refl
   by-run value.Export = other value.Export refl
   by-run (value.Function i j p k l) = other (value.Function i j p k l) refl
-  by-run (value.No n o x) = other (value.No n o x) refl
+  by-run (value.No n o x) = no n o x
 
 -- the variants but Atom, and but Atom and Binary, by their numbers
 abbrev notAtom : List ℕ
@@ -68,6 +45,7 @@ not-named f =
     by-run (λ (v : Value). OneOf notAtom (tagOf the-type v) → v ≡ named v f)
     (λ s n k. absurd (miss notAtom 3 tt k))
     (λ s n k. refl)
+    (λ n o x k. refl)
     (λ v e k. rw e)
 
 pub no-part : (b : List ℕ) (v : Value) → OneOf noRun (tagOf the-type v) → [] ≡ partOf b (runOf v)
@@ -76,4 +54,5 @@ no-part b =
     by-run (λ (v : Value). OneOf noRun (tagOf the-type v) → [] ≡ partOf b (runOf v))
     (λ s n k. absurd (miss noRun 3 tt k))
     (λ s n k. absurd (miss noRun 8 tt k))
+    (λ n o x k. refl)
     (λ v e k. rw e)

@@ -1,2 +1,2 @@
-pub mod Head
-pub mod Width
+pub mod Run
+pub mod Inner

@@ -7,22 +7,13 @@
 // Changed from the readers of decoder.rs (parse_term_borrowed to parse_new_fun_ext_borrowed; michaelklishin/edp-rs, fc07dcb95d),
 // Copyright (C) 2025-2026 Michael S. Klishin and Contributors, Apache-2.0: see NOTICE.
 use fields::Field;
-use fields::Integer;
+use rows::Counted;
 use rows::Row;
 ghost use mathlib.Core.Path.{_≡_};
 ghost use Prim.Native.Nat.{_+_, _<_, _≤_};
 ghost use lib.ListN.{length, take, drop};
 ghost use lib.Ieee.{binary64, ofBits};
-ghost use Rattle.fields.specs.Be.{beAt, signed};
-ghost use Rattle.heads.specs.Head as spec;
-ghost use Rattle.heads.specs.Width.{width};
-
-// The caps on the arity of a tuple, the length of a list and the arity of a map.
-const MAX_TUPLE_SIZE: u64 = 10000000;
-
-const MAX_LIST_SIZE: u64 = 10000000;
-
-const MAX_MAP_SIZE: u64 = 1000000;
+ghost use Rattle.heads.specs.Inner.Head as spec;
 
 // The tag of a term and what its row says. The tag is 0 where no term was reached.
 pub struct Headed {
@@ -75,16 +66,16 @@ pub enum Value {
 pub fn head(b: &[u8], at: usize) -> Headed
     ensures { λ r. ⌜ r ≡ spec.headAt (now (b .entry)) at ⌝ }
 {
-    if 16777216 < b.len() {
+    if numbers::INPUT < b.len() {
         return Headed {
             tag: 0,
-            value: Value::No(rows::LONG, 0, 0),
+            value: Value::No(numbers::LONG, 0, 0),
         };
     }
     if b.len() <= at {
         return Headed {
             tag: 0,
-            value: Value::No(rows::EOF, at, 0),
+            value: Value::No(numbers::EOF, at, 0),
         };
     }
     let tag = b[at];
@@ -130,16 +121,16 @@ fn term(b: &[u8], tag: u8, at: usize) -> Value
         120 => port(b, at),
         113 => Value::Export,
         112 => function(b, at),
-        _ => leaf(b, tag, at),
+        _ => row_value(b, tag, at),
     }
 }
 
 // A row without children: `rows` says whether it is there.
-fn leaf(b: &[u8], tag: u8, at: usize) -> Value
+fn row_value(b: &[u8], tag: u8, at: usize) -> Value
     requires { ⌜ at < length (now b) ⌝ }
-    ensures { λ r. ⌜ r ≡ spec.leaf (now (b .entry)) tag at ⌝ }
+    ensures { λ r. ⌜ r ≡ spec.rowValue (now (b .entry)) tag at ⌝ }
 {
-    let r = rows::leaf(b, tag, at + 1);
+    let r = rows::row_at(b, tag, at + 1);
     match r {
         Row::To(_) => fixed(b, tag, at + 1),
         Row::No(n, x) => Value::No(n, at, x),
@@ -148,23 +139,27 @@ fn leaf(b: &[u8], tag: u8, at: usize) -> Value
 
 // The fields of a row without children, which are there, from the place behind the tag on. The last of these tags is 111.
 fn fixed(b: &[u8], tag: u8, p: usize) -> Value
-    requires { ⌜ p + width tag ≤ length (now b) ⌝ }
+    requires { ⌜ (p ≤ length (now b)) × (tag ≡ 99 → p + 31 ≤ length (now b)) ⌝ }
     ensures { λ r. ⌜ r ≡ spec.fixed (now (b .entry)) tag p ⌝ }
 {
     match tag {
-        97 => Value::Integer(u8_at(b, p) as i64),
-        98 => Value::Integer(i32_at(b, p)),
+        97 => Value::Integer(fields::u8_at(b, p) as i64),
+        98 => Value::Integer(fields::i32_at(b, p)),
         99 => number_text(b, p),
         70 => double(b, p),
-        100 => Value::Atom(p + 2, u16_at(b, p) as usize),
-        118 => Value::Atom(p + 2, u16_at(b, p) as usize),
-        119 => Value::Atom(p + 1, u8_at(b, p) as usize),
+        100 => Value::Atom(p + 2, fields::u16_at(b, p) as usize),
+        118 => Value::Atom(p + 2, fields::u16_at(b, p) as usize),
+        119 => Value::Atom(p + 1, fields::u8_at(b, p) as usize),
         106 => Value::Nil,
-        107 => Value::String(p + 2, u16_at(b, p) as usize),
-        109 => Value::Binary(p + 4, u32_at(b, p) as usize),
-        77 => Value::BitString(p + 5, u32_at(b, p) as usize, u8_at(b, p + 4)),
-        110 => big(b, p + 1, u8_at(b, p)),
-        _ => big(b, p + 4, u32_at(b, p)),
+        107 => Value::String(p + 2, fields::u16_at(b, p) as usize),
+        109 => Value::Binary(p + 4, fields::u32_at(b, p) as usize),
+        77 => Value::BitString(
+            p + 5,
+            fields::u32_at(b, p) as usize,
+            fields::u8_at(b, p + 4),
+        ),
+        110 => big(b, p + 1, fields::u8_at(b, p)),
+        _ => big(b, p + 4, fields::u32_at(b, p)),
     }
 }
 
@@ -178,10 +173,9 @@ fn number_text(b: &[u8], p: usize) -> Value
 }
 
 fn double(b: &[u8], p: usize) -> Value
-    requires { ⌜ p + 8 ≤ length (now b) ⌝ }
     ensures { λ r. ⌜ r ≡ spec.double (now (b .entry)) p ⌝ }
 {
-    let bits = u64_at(b, p);
+    let bits = fields::u64_at(b, p);
     Value::Double(float(bits), bits)
 }
 
@@ -197,67 +191,11 @@ fn float(bits: u64) -> f64
 
 // n digits behind the sign byte at q.
 fn big(b: &[u8], q: usize, n: u64) -> Value
-    requires { ⌜ q + 1 ≤ length (now b) ⌝ }
+    requires { ⌜ q ≤ length (now b) + 4 ⌝ }
     ensures { λ r. ⌜ r ≡ spec.big (now (b .entry)) q n ⌝ }
 {
-    let sign = u8_at(b, q);
+    let sign = fields::u8_at(b, q);
     Value::Big(q + 1, n as usize, sign, sign != 0)
-}
-
-// Numbers whose bytes are there, so that `fields` never says Eof.
-fn u8_at(b: &[u8], p: usize) -> u64
-    requires { ⌜ p + 1 ≤ length (now b) ⌝ }
-    ensures { λ r. ⌜ (r ≡ beAt 1 (now (b .entry)) p) × (r < 256) ⌝ }
-{
-    let f = fields::be_u8(b, p);
-    match f {
-        Field::Is(n) => n,
-        Field::Eof => 0,
-    }
-}
-
-fn u16_at(b: &[u8], p: usize) -> u64
-    requires { ⌜ p + 2 ≤ length (now b) ⌝ }
-    ensures { λ r. ⌜ r ≡ beAt 2 (now (b .entry)) p ⌝ }
-{
-    let f = fields::be_u16(b, p);
-    match f {
-        Field::Is(n) => n,
-        Field::Eof => 0,
-    }
-}
-
-fn u32_at(b: &[u8], p: usize) -> u64
-    requires { ⌜ p + 4 ≤ length (now b) ⌝ }
-    ensures { λ r. ⌜ r ≡ beAt 4 (now (b .entry)) p ⌝ }
-{
-    let f = fields::be_u32(b, p);
-    match f {
-        Field::Is(n) => n,
-        Field::Eof => 0,
-    }
-}
-
-fn u64_at(b: &[u8], p: usize) -> u64
-    requires { ⌜ p + 8 ≤ length (now b) ⌝ }
-    ensures { λ r. ⌜ r ≡ beAt 8 (now (b .entry)) p ⌝ }
-{
-    let f = fields::be_u64(b, p);
-    match f {
-        Field::Is(n) => n,
-        Field::Eof => 0,
-    }
-}
-
-fn i32_at(b: &[u8], p: usize) -> i64
-    requires { ⌜ p + 4 ≤ length (now b) ⌝ }
-    ensures { λ r. ⌜ r ≡ signed (beAt 4 (now (b .entry)) p) ⌝ }
-{
-    let f = fields::be_i32(b, p);
-    match f {
-        Integer::Is(z) => z,
-        Integer::Eof => 0,
-    }
 }
 
 fn small_tuple(b: &[u8], at: usize) -> Value
@@ -268,7 +206,7 @@ fn small_tuple(b: &[u8], at: usize) -> Value
     let f = fields::be_u8(b, p);
     match f {
         Field::Is(n) => Value::Tuple(n),
-        Field::Eof => Value::No(rows::EOF, at, 0),
+        Field::Eof => Value::No(numbers::EOF, at, 0),
     }
 }
 
@@ -276,16 +214,10 @@ fn large_tuple(b: &[u8], at: usize) -> Value
     requires { ⌜ at < length (now b) ⌝ }
     ensures { λ r. ⌜ r ≡ spec.largeTuple (now (b .entry)) at ⌝ }
 {
-    let p = at + 1;
-    let f = fields::be_u32(b, p);
-    match f {
-        Field::Is(n) => {
-            if MAX_TUPLE_SIZE < n {
-                return Value::No(rows::SIZE, at, 0);
-            }
-            Value::Tuple(n)
-        }
-        Field::Eof => Value::No(rows::EOF, at, 0),
+    let arity = rows::count(b, numbers::ELEMENTS, at + 1);
+    match arity {
+        Counted::Is(n) => Value::Tuple(n),
+        Counted::No(n) => Value::No(n, at, 0),
     }
 }
 
@@ -293,16 +225,10 @@ fn list(b: &[u8], at: usize) -> Value
     requires { ⌜ at < length (now b) ⌝ }
     ensures { λ r. ⌜ r ≡ spec.list (now (b .entry)) at ⌝ }
 {
-    let p = at + 1;
-    let f = fields::be_u32(b, p);
-    match f {
-        Field::Is(n) => {
-            if MAX_LIST_SIZE < n {
-                return Value::No(rows::SIZE, at, 0);
-            }
-            Value::List(n)
-        }
-        Field::Eof => Value::No(rows::EOF, at, 0),
+    let elements = rows::count(b, numbers::ELEMENTS, at + 1);
+    match elements {
+        Counted::Is(n) => Value::List(n),
+        Counted::No(n) => Value::No(n, at, 0),
     }
 }
 
@@ -310,16 +236,10 @@ fn map(b: &[u8], at: usize) -> Value
     requires { ⌜ at < length (now b) ⌝ }
     ensures { λ r. ⌜ r ≡ spec.map (now (b .entry)) at ⌝ }
 {
-    let p = at + 1;
-    let f = fields::be_u32(b, p);
-    match f {
-        Field::Is(n) => {
-            if MAX_MAP_SIZE < n {
-                return Value::No(rows::SIZE, at, 0);
-            }
-            Value::Map(n)
-        }
-        Field::Eof => Value::No(rows::EOF, at, 0),
+    let pairs = rows::count(b, numbers::PAIRS, at + 1);
+    match pairs {
+        Counted::Is(n) => Value::Map(n),
+        Counted::No(n) => Value::No(n, at, 0),
     }
 }
 
@@ -328,14 +248,14 @@ fn node(b: &[u8], c: usize) -> Value
     ensures { λ r. ⌜ r ≡ spec.node (now (b .entry)) c ⌝ }
 {
     if b.len() <= c {
-        return Value::No(rows::EOF, c, 0);
+        return Value::No(numbers::EOF, c, 0);
     }
     let tag = b[c];
     match tag {
-        100 => leaf(b, tag, c),
-        118 => leaf(b, tag, c),
-        119 => leaf(b, tag, c),
-        _ => Value::No(rows::TAG, c, 0),
+        100 => row_value(b, tag, c),
+        118 => row_value(b, tag, c),
+        119 => row_value(b, tag, c),
+        _ => Value::No(numbers::TAG, c, 0),
     }
 }
 
@@ -358,13 +278,13 @@ fn pid_numbers(b: &[u8], c: usize, s: usize, n: usize) -> Value
 {
     let q = s + n;
     let Field::Is(id) = fields::be_u32(b, q) else {
-        return Value::No(rows::EOF, c, 0);
+        return Value::No(numbers::EOF, c, 0);
     };
     let Field::Is(serial) = fields::be_u32(b, q + 4) else {
-        return Value::No(rows::EOF, c, 0);
+        return Value::No(numbers::EOF, c, 0);
     };
     let Field::Is(creation) = fields::be_u32(b, q + 8) else {
-        return Value::No(rows::EOF, c, 0);
+        return Value::No(numbers::EOF, c, 0);
     };
     Value::Pid(s, n, id, serial, creation)
 }
@@ -375,7 +295,7 @@ fn reference(b: &[u8], at: usize) -> Value
 {
     let p = at + 1;
     let Field::Is(count) = fields::be_u16(b, p) else {
-        return Value::No(rows::EOF, at, 0);
+        return Value::No(numbers::EOF, at, 0);
     };
     let c = at + 3;
     let v = node(b, c);
@@ -391,12 +311,12 @@ fn reference_numbers(b: &[u8], c: usize, count: u64, s: usize, n: usize) -> Valu
 {
     let q = s + n;
     let Field::Is(creation) = fields::be_u32(b, q) else {
-        return Value::No(rows::EOF, c, 0);
+        return Value::No(numbers::EOF, c, 0);
     };
     if fields::has(b, q + 4, count as usize * 4) {
         return Value::Reference(count, s, n, creation, q + 4);
     }
-    Value::No(rows::EOF, c, 0)
+    Value::No(numbers::EOF, c, 0)
 }
 
 fn port(b: &[u8], at: usize) -> Value
@@ -417,10 +337,10 @@ fn port_numbers(b: &[u8], c: usize, s: usize, n: usize) -> Value
 {
     let q = s + n;
     let Field::Is(id) = fields::be_u64(b, q) else {
-        return Value::No(rows::EOF, c, 0);
+        return Value::No(numbers::EOF, c, 0);
     };
     let Field::Is(creation) = fields::be_u32(b, q + 8) else {
-        return Value::No(rows::EOF, c, 0);
+        return Value::No(numbers::EOF, c, 0);
     };
     Value::Port(s, n, id, creation)
 }
@@ -431,16 +351,16 @@ fn function(b: &[u8], at: usize) -> Value
 {
     let p = at + 1;
     let Field::Is(size) = fields::be_u32(b, p) else {
-        return Value::No(rows::EOF, at, 0);
+        return Value::No(numbers::EOF, at, 0);
     };
     let Field::Is(arity) = fields::be_u8(b, p + 4) else {
-        return Value::No(rows::EOF, at, 0);
+        return Value::No(numbers::EOF, at, 0);
     };
     let Field::Is(index) = fields::be_u32(b, p + 21) else {
-        return Value::No(rows::EOF, at, 0);
+        return Value::No(numbers::EOF, at, 0);
     };
     let Field::Is(free) = fields::be_u32(b, p + 25) else {
-        return Value::No(rows::EOF, at, 0);
+        return Value::No(numbers::EOF, at, 0);
     };
     Value::Function(size, arity, p + 5, index, free)
 }

@@ -9,28 +9,31 @@ use lib.Count.{ones}
 use lib.IntN.{negsuc}
 use borrow.Author.Tests.{eq-eqb}
 use Rattle.fields.specs.Be.{be, beAt}
-use Rattle.fields.specs.Field.{holds, fieldAt}
-use Rattle.utf8.specs.Unicode.{scalar, encode, decode, starts, charBytes, goodFrom, goodBytes}
-use Rattle.rows.specs.Numbers as number
+use Rattle.fields.specs.Field.{holds, fieldAt, numberThen}
+use Rattle.utf8.specs.Unicode.{scalar, encode}
+use Rattle.utf8.specs.Inner.Find.{decode, starts, charBytes, goodFrom, goodBytes}
+use Rattle.numbers.specs.Numbers as number
 use Rattle.rows.specs.Row as row
 use Rattle.rows.specs.Layout as layout
-use Rattle.heads.specs.Head as head
+use Rattle.heads.specs.Run.{runOf}
+use Rattle.heads.specs.Inner.Head as head
 use Rattle.cache.specs.declared.Cache.{Cache}
 use Rattle.cache.specs.Names.{storeBytes, filled, countOf, gotAt}
 use Rattle.cache.specs.Header.{headerIn}
 use Rattle.cache.proofs.Examples as cache
+use Rattle.lookup.specs.Lookup.{Looked}
 use Rattle.lookup.specs.Lookup as key
 use Rattle.lookup.proofs.Examples as lookup
 use Rattle.fragments.specs.Fragment.{firstAt, nextAt}
 use Rattle.fragments.proofs.Examples.{aFirst, aNext, first-whole, first-version, next-whole, next-kind}
-use Rattle.jig.specs.Shown.{Found}
-use Rattle.jig.specs.Heads.{placed}
-use Rattle.jig.specs.Names.{held, said}
-use Rattle.jig.specs.Fragments.{first, next}
+use Rattle.jig.specs.Shown.{Tells}
+use Rattle.jig.specs.Heads.{partWords}
+use Rattle.jig.specs.Names.{nameWords, headerWords}
+use Rattle.jig.specs.Fragments.{firstWords, nextWords}
 
 -- sill_part: the bytes of a string are no part. A call that hands out every run says 3 and 1
-pub string-part : placed (head.runOf (head.headAt (107 ∷ 0 ∷ 1 ∷ 97 ∷ []) 0 .value)) ≡ 0 ∷ 0 ∷ []
-unfolding head.headAt head.term head.leaf head.fixed layout.leaf row.sized row.bytes holds fieldAt beAt be
+pub string-part : partWords (runOf (head.headAt (107 ∷ 0 ∷ 1 ∷ 97 ∷ []) 0 .value)) ≡ 0 ∷ 0 ∷ []
+unfolding head.headAt head.term head.rowValue head.fixed layout.rowAt numberThen row.bytes holds fieldAt beAt be
 string-part = refl
 
 -- sill_empty: a call that fills the last slot, and one that leaves the words of a cache with names
@@ -56,39 +59,39 @@ two-in-a-word = refl
 -- sill_get, of a store of which slot 0 begins 1 97: a call that tells the slot's place says 0; one that doesn't ask whether the slot is
 -- filled tells this name in an empty cache too
 module _ (rest : List ℕ) (h : length rest ≡ 65534) where
-  pub behind-the-length : held (gotAt (1 ∷ 0 ∷ 0 ∷ 0 ∷ []) (1 ∷ 97 ∷ rest) 0) ≡ 0 ∷ 1 ∷ 1 ∷ []
+  pub behind-the-length : nameWords (gotAt (1 ∷ 0 ∷ 0 ∷ 0 ∷ []) (1 ∷ 97 ∷ rest) 0) ≡ 0 ∷ 1 ∷ 1 ∷ []
   unfolding gotAt filled
   behind-the-length = rw (eq-eqb (length (1 ∷ 97 ∷ rest)) storeBytes (omega arith)) refl
 
-  pub no-name : held (gotAt (0 ∷ 0 ∷ 0 ∷ 0 ∷ []) (1 ∷ 97 ∷ rest) 0) ≡ number.Absent ∷ 0 ∷ 0 ∷ []
+  pub no-name : nameWords (gotAt (0 ∷ 0 ∷ 0 ∷ 0 ∷ []) (1 ∷ 97 ∷ rest) 0) ≡ number.Absent ∷ 0 ∷ 0 ∷ []
   unfolding gotAt filled
   no-name = rw (eq-eqb (length (1 ∷ 97 ∷ rest)) storeBytes (omega arith)) refl
 
 -- sill_header: a call that tells the extra before the rest says 13, 69, 0
-pub header-kind : said (headerIn (131 ∷ 69 ∷ []) 65536) ≡ number.Kind ∷ 0 ∷ 69 ∷ []
+pub header-kind : headerWords (headerIn (131 ∷ 69 ∷ []) 65536) ≡ number.Kind ∷ 0 ∷ 69 ∷ []
 unfolding headerIn
-header-kind = ap said (cache.examples .kind)
+header-kind = ap headerWords (cache.examples .kind)
 
 -- the lookups: a call that looks for another number finds none; one that looks for the front of a name finds it
-pub number-found : {told old new : List ℕ} → Found (131 ∷ 116 ∷ 0 ∷ 0 ∷ 0 ∷ 1 ∷ 98 ∷ 255 ∷ 255 ∷ 255 ∷ 255 ∷ 106 ∷ []) 1 64 (key.number (negsuc 0)) told old new → (getD told 0 0 ≡ 0) × (getD told 2 0 ≡ 11)
-number-found f = rw (f .shows) (lookup.signed-key (f .looked))
+pub number-found : {told old new : List ℕ} → Tells (Looked (131 ∷ 116 ∷ 0 ∷ 0 ∷ 0 ∷ 1 ∷ 98 ∷ 255 ∷ 255 ∷ 255 ∷ 255 ∷ 106 ∷ []) 1 64 (key.number (negsuc 0))) told old new → (getD told 0 0 ≡ 0) × (getD told 2 0 ≡ 11)
+number-found f = rw (f .shows) (lookup.signed-key (f .promised))
 
-pub name-missed : {told old new : List ℕ} → Found (131 ∷ 116 ∷ 0 ∷ 0 ∷ 0 ∷ 1 ∷ 119 ∷ 2 ∷ 97 ∷ 98 ∷ 106 ∷ []) 1 64 (key.name (97 ∷ [])) told old new → (getD told 0 0 ≡ number.Absent) × (getD told 2 0 ≡ 1)
-name-missed f = rw (f .shows) (lookup.longer-name (f .looked))
+pub name-missed : {told old new : List ℕ} → Tells (Looked (131 ∷ 116 ∷ 0 ∷ 0 ∷ 0 ∷ 1 ∷ 119 ∷ 2 ∷ 97 ∷ 98 ∷ 106 ∷ []) 1 64 (key.name (97 ∷ []))) told old new → (getD told 0 0 ≡ number.Absent) × (getD told 2 0 ≡ 1)
+name-missed f = rw (f .shows) (lookup.longer-name (f .promised))
 
 -- sill_first: a call that leaves the extra out says 12 and nothing more; one that exchanges any two numbers of a good one tells another row
-pub version-told : first (firstAt (130 ∷ [])) ≡ number.Version ∷ 0 ∷ 130 ∷ 0 ∷ 0 ∷ 0 ∷ []
-version-told = ap first first-version
+pub version-told : firstWords (firstAt (130 ∷ [])) ≡ number.Version ∷ 0 ∷ 130 ∷ 0 ∷ 0 ∷ 0 ∷ []
+version-told = ap firstWords first-version
 
-pub first-told : first (firstAt aFirst) ≡ 0 ∷ 19 ∷ 0 ∷ 258 ∷ 3 ∷ 1 ∷ []
-first-told = ap first first-whole
+pub first-told : firstWords (firstAt aFirst) ≡ 0 ∷ 19 ∷ 0 ∷ 258 ∷ 3 ∷ 1 ∷ []
+first-told = ap firstWords first-whole
 
 -- sill_next: a call that takes a first fragment too says 0, and where its rest begins; likewise of its numbers
-pub first-for-next : next (nextAt aFirst) ≡ number.Kind ∷ 0 ∷ 69 ∷ 0 ∷ 0 ∷ []
-first-for-next = ap next next-kind
+pub first-for-next : nextWords (nextAt aFirst) ≡ number.Kind ∷ 0 ∷ 69 ∷ 0 ∷ 0 ∷ []
+first-for-next = ap nextWords next-kind
 
-pub next-told : next (nextAt aNext) ≡ 0 ∷ 18 ∷ 0 ∷ 258 ∷ 2 ∷ []
-next-told = ap next next-whole
+pub next-told : nextWords (nextAt aNext) ≡ 0 ∷ 18 ∷ 0 ∷ 258 ∷ 2 ∷ []
+next-told = ap nextWords next-whole
 
 -- sill_utf8: a call that says whether all is good says 0, and one that takes any byte 2; one that counts characters says 1
 pub good-front : goodBytes (97 ∷ 255 ∷ []) ≡ 1

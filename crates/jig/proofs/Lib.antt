@@ -1,4 +1,5 @@
 pub mod Told
+pub mod Outcomes
 pub mod Twos
 pub mod Parts
 pub mod Examples

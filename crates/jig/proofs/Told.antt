@@ -1,34 +1,20 @@
--- What is told of an answer is told of the answer that it equals, and of no other. Assumes nothing.
-use mathlib.Core.Path.{_≡_, refl, ap, sym, _∙_}
+-- What is told of one answer is one. Assumes nothing.
+use mathlib.Core.Path.{_≡_, ap, sym, _∙_}
 use mathlib.Core.List.{List}
 use Prim.Native.Nat.{ℕ}
-use lib.ListN.{length, getD}
-use Rattle.terms.specs.declared.Answer.{Answer}
-use Rattle.tape.specs.Read.{readAll, Left}
-use Rattle.tape.proofs.Accepts.{Promised, determined}
-use Rattle.lookup.specs.Lookup.{Key}
-use Rattle.lookup.proofs.Meaning.{one-answer}
-use Rattle.jig.specs.Shown.{shown, traced, Found}
+use Rattle.reading.specs.declared.Answer.{Answer}
+use Rattle.tape.specs.Read.{Promised}
+use Rattle.tape.proofs.Accepts.{determined}
+use Rattle.jig.specs.Shown.{answerWords, pathWords, Tells}
 
-pub traced-is : (old : List ℕ) {new : List ℕ} {a r : Answer} → a ≡ r → new ≡ traced a old → new ≡ traced r old
-traced-is old e h = h ∙ ap (λ (x : Answer). traced x old) e
+pub told-once : {P Q : Answer → Type 0} {told told' old new new' : List ℕ} → ((x y : Answer) → P x → Q y → x ≡ y) → Tells P told old new → Tells Q told' old new' → (told ≡ told') × (new ≡ new')
+told-once {old = old} once f g =
+    let e = once (f .answer) (g .answer) (f .promised) (g .promised) in
+    (f .shows ∙ ap answerWords e ∙ sym (g .shows), f .traces ∙ ap (λ (a : Answer). pathWords a old) e ∙ sym (g .traces))
 
--- the first number told is the answer's
-pub left-told : {b told old new : List ℕ} (a : Answer) → told ≡ shown a → Left b (a .number) old new → Left b (getD told 0 0) old new
-left-told a e h = rw e h
-
--- two that tell of one lookup are one
-pub found-once : {b : List ℕ} {at limit : ℕ} {k : Key} {told told' old new new' : List ℕ} →
-    Found b at limit k told old new → Found b at limit k told' old new' → (told ≡ told') × (new ≡ new')
-found-once {old = old} f g =
-    let e = one-answer (f .looked) (g .looked) in
-    (f .shows ∙ ap shown e ∙ sym (g .shows), f .traces ∙ ap (λ (a : Answer). traced a old) e ∙ sym (g .traces))
-
--- two that tell of one read leave one tape
-module _ {b : List ℕ} (limit : ℕ) {old : List ℕ} where
-  promised : {told new : List ℕ} → told ≡ shown (readAll b limit (length old)) → Left b (getD told 0 0) old new → Promised b limit (readAll b limit (length old)) old new
-  promised e h = record { answered = refl; left = rw e at h }
-
-  pub left-once : {told told' new new' : List ℕ} → told ≡ shown (readAll b limit (length old)) → told' ≡ shown (readAll b limit (length old)) →
-      Left b (getD told 0 0) old new → Left b (getD told' 0 0) old new' → new ≡ new'
-  left-once e f h k = determined (promised e h) (promised f k) .1
+-- and two reads that are told leave one tape
+pub read-once : {b : List ℕ} {limit : ℕ} {old tape tape' told told' path new new' : List ℕ} →
+    Tells (λ r. Promised b limit r old tape) told path new → Tells (λ r. Promised b limit r old tape') told' path new' → (told ≡ told') × ((new ≡ new') × (tape ≡ tape'))
+read-once f g =
+    let (e, h) = told-once (λ x y p q. determined p q .0) f g in
+    (e, (h, determined (f .promised) (g .promised) .1))

@@ -6,7 +6,7 @@ use lib.IntN.{ℤ, pos, negsuc}
 use Rattle.heads.specs.declared.Value.{Value}
 use Rattle.heads.specs.declared.Value.the-variants as value
 use Rattle.heads.specs.declared.Headed.{Headed}
-use Rattle.heads.specs.Head.{Run, name, bytes, none}
+use Rattle.heads.specs.Run.{Run, name, bytes, refusal, none}
 
 -- an integer by its two's complement: -1 is the largest word, and each integer below it is one less
 unfoldable pub twos : ℤ → ℕ
@@ -18,31 +18,32 @@ abbrev pub fields : (tag a b c d e : ℕ) → List ℕ
 fields tag a b c d e = 0 ∷ tag ∷ 0 ∷ 0 ∷ a ∷ b ∷ c ∷ d ∷ e ∷ []
 
 -- by the value; fields that it hasn't are 0
-abbrev pub valued : ℕ → Value → List ℕ
-valued tag (value.Integer z) = fields tag (twos z) 0 0 0 0
-valued tag (value.NumberText p n) = fields tag p n 0 0 0
-valued tag (value.Double x bits) = fields tag bits 0 0 0 0
-valued tag (value.Atom p n) = fields tag p n 0 0 0
-valued tag (value.Tuple n) = fields tag n 0 0 0 0
-valued tag value.Nil = fields tag 0 0 0 0 0
-valued tag (value.String p n) = fields tag p n 0 0 0
-valued tag (value.List n) = fields tag n 0 0 0 0
-valued tag (value.Binary p n) = fields tag p n 0 0 0
-valued tag (value.BitString p n k) = fields tag p n k 0 0
-valued tag (value.Big p n sign negative) = fields tag p n sign (cond negative 1 0) 0
-valued tag (value.Map n) = fields tag n 0 0 0 0
-valued tag (value.Pid p n id serial creation) = fields tag p n id serial creation
-valued tag (value.Reference k p n creation ids) = fields tag k p n creation ids
-valued tag (value.Port p n id creation) = fields tag p n id creation 0
-valued tag value.Export = fields tag 0 0 0 0 0
-valued tag (value.Function size arity p index free) = fields tag size arity p index free
-valued tag (value.No number offset extra) = number ∷ tag ∷ offset ∷ extra ∷ 0 ∷ 0 ∷ 0 ∷ 0 ∷ 0 ∷ []
+abbrev pub valueWords : ℕ → Value → List ℕ
+valueWords tag (value.Integer z) = fields tag (twos z) 0 0 0 0
+valueWords tag (value.NumberText p n) = fields tag p n 0 0 0
+valueWords tag (value.Double x bits) = fields tag bits 0 0 0 0
+valueWords tag (value.Atom p n) = fields tag p n 0 0 0
+valueWords tag (value.Tuple n) = fields tag n 0 0 0 0
+valueWords tag value.Nil = fields tag 0 0 0 0 0
+valueWords tag (value.String p n) = fields tag p n 0 0 0
+valueWords tag (value.List n) = fields tag n 0 0 0 0
+valueWords tag (value.Binary p n) = fields tag p n 0 0 0
+valueWords tag (value.BitString p n k) = fields tag p n k 0 0
+valueWords tag (value.Big p n sign negative) = fields tag p n sign (cond negative 1 0) 0
+valueWords tag (value.Map n) = fields tag n 0 0 0 0
+valueWords tag (value.Pid p n id serial creation) = fields tag p n id serial creation
+valueWords tag (value.Reference k p n creation ids) = fields tag k p n creation ids
+valueWords tag (value.Port p n id creation) = fields tag p n id creation 0
+valueWords tag value.Export = fields tag 0 0 0 0 0
+valueWords tag (value.Function size arity p index free) = fields tag size arity p index free
+valueWords tag (value.No number offset extra) = number ∷ tag ∷ offset ∷ extra ∷ 0 ∷ 0 ∷ 0 ∷ 0 ∷ 0 ∷ []
 
-abbrev pub headed : Headed → List ℕ
-headed h = valued (h .tag) (h .value)
+abbrev pub headWords : Headed → List ℕ
+headWords h = valueWords (h .tag) (h .value)
 
 -- the run of bytes that the second call hands out: its place and its length
-abbrev pub placed : Run → List ℕ
-placed (name p n) = p ∷ n ∷ []
-placed (bytes p n) = p ∷ n ∷ []
-placed none = 0 ∷ 0 ∷ []
+abbrev pub partWords : Run → List ℕ
+partWords (name p n) = p ∷ n ∷ []
+partWords (bytes p n) = p ∷ n ∷ []
+partWords (refusal n o x) = 0 ∷ 0 ∷ []
+partWords none = 0 ∷ 0 ∷ []

@@ -4,15 +4,15 @@ use mathlib.Core.Path.{_≡_}
 use mathlib.Core.List.{List, [], _∷_}
 use lib.ListN.{getD}
 use lib.Seq.{sets}
-use Rattle.terms.specs.declared.Answer.{Answer}
-use Rattle.terms.specs.declared.Kind.the-variants.{Tuple}
-use Rattle.terms.specs.declared.Segment.{Segment}
-use Rattle.terms.specs.Told.{kindNumber}
-use Rattle.lookup.specs.Lookup.{Key, Looked}
+use Rattle.numbers.specs.Numbers.{outcome, Shown}
+use Rattle.reading.specs.declared.Answer.{Answer}
+use Rattle.reading.specs.declared.Kind.the-variants.{Tuple}
+use Rattle.reading.specs.declared.Segment.{Segment}
+use Rattle.reading.specs.Answer.{kindNumber}
 
 -- its number, end, offset, extra, terms begun, deepest nesting and how many segments its path has, in this order
-abbrev pub shown : Answer → List ℕ
-shown a = a .number ∷ a .end ∷ a .offset ∷ a .extra ∷ a .begun ∷ a .deepest ∷ a .len ∷ []
+abbrev pub answerWords : Answer → List ℕ
+answerWords a = a .number ∷ a .end ∷ a .offset ∷ a .extra ∷ a .begun ∷ a .deepest ∷ a .len ∷ []
 
 -- "A segment holds its kind and one number": two words for each of k segments, from number i on
 unfoldable pub segments : List Segment → (k i : ℕ) → List ℕ
@@ -20,12 +20,17 @@ segments path zero i = []
 segments path (suc k) i = let s = getD path i (record { kind = Tuple; number = 0 }) in kindNumber (s .kind) ∷ s .number ∷ segments path k (i + 1)
 
 -- the lent words after it: its path from the outermost segment on; the words behind the last stay
-unfoldable pub traced : Answer → List ℕ → List ℕ
-traced a words = sets words 0 (segments (a .path) (a .len) 0)
+unfoldable pub pathWords : Answer → List ℕ → List ℕ
+pathWords a words = sets words 0 (segments (a .path) (a .len) 0)
 
--- what is told is a lookup's answer
-pub record Found (b : List ℕ) (at limit : ℕ) (k : Key) (told old new : List ℕ) : Type 0 where
+-- what is told is an answer of the call beneath, of which P holds
+pub record Tells (P : Answer → Type 0) (told old new : List ℕ) : Type 0 where
   pub answer : Answer
-  pub looked : Looked b at limit k answer
-  pub shows : told ≡ shown answer
-  pub traces : new ≡ traced answer old
+  pub promised : P answer
+  pub shows : told ≡ answerWords answer
+  pub traces : new ≡ pathWords answer old
+
+-- numbers told, the first of which is Done or the number of a refusal
+abbrev pub FirstShown : List ℕ → Type 0
+FirstShown [] = ⊥
+FirstShown (n ∷ l) = Shown (outcome n)

@@ -6,28 +6,29 @@ use cache::Cache;
 use cache::Got;
 use heads::Headed;
 use heads::Value;
-use terms::Answer;
-use terms::Kind;
-use terms::Segment;
+use reading::Answer;
+use reading::Segment;
 ghost use mathlib.Core.Path.{_≡_};
 ghost use mathlib.Core.Bool.{cond};
 ghost use Prim.Native.Nat.{_≤_};
-ghost use lib.ListN.{length, getD, replicate};
+ghost use lib.ListN.{length, replicate};
 ghost use lib.Seq.{sets};
-ghost use Rattle.utf8.specs.Unicode.{goodBytes};
-ghost use Rattle.terms.specs.Answer.{readAt};
-ghost use Rattle.terms.specs.Told.{kindNumber};
-ghost use Rattle.tape.specs.Read.{readAll, Left};
-ghost use Rattle.heads.specs.Head.{headAt, runOf};
+ghost use Rattle.numbers.specs.Caps as cap;
+ghost use Rattle.utf8.specs.Inner.Find.{goodBytes};
+ghost use Rattle.reading.specs.Answer.{readAt};
+ghost use Rattle.tape.specs.Read.{Promised};
+ghost use Rattle.heads.specs.Run.{runOf};
+ghost use Rattle.heads.specs.Inner.Head.{headAt};
+ghost use Rattle.lookup.specs.Lookup.{Looked};
 ghost use Rattle.lookup.specs.Lookup as key;
 ghost use Rattle.cache.specs.Names.{countOf, gotAt};
 ghost use Rattle.cache.specs.Header.{headerIn, storedAll, markedAll};
 ghost use Rattle.fragments.specs.Fragment.{firstAt, nextAt};
-ghost use Rattle.jig.specs.Shown.{shown, traced, Found};
+ghost use Rattle.jig.specs.Shown.{answerWords, pathWords, Tells};
 ghost use Rattle.jig.specs.Shown as spec;
-ghost use Rattle.jig.specs.Heads.{twos, headed, placed};
-ghost use Rattle.jig.specs.Names.{held, said};
-ghost use Rattle.jig.specs.Fragments.{first, next};
+ghost use Rattle.jig.specs.Heads.{twos, headWords, partWords};
+ghost use Rattle.jig.specs.Names.{nameWords, headerWords};
+ghost use Rattle.jig.specs.Fragments.{firstWords, nextWords};
 
 // Reads a record and writes its tape, as tape::read does. Told are number, end, offset, extra, terms begun, deepest nesting and the
 // segments in the path; of a refusal's path, two words for each segment.
@@ -39,9 +40,7 @@ pub extern "C" fn sill_read(
     told: &mut [u64; 7],
     path: &mut [u64; 128],
 )
-    ensures { λ _. ⌜ now (told .exit) ≡ shown (readAll (now (b .entry)) limit (length (now (tape .entry)))) ⌝ }
-    ensures { λ _. ⌜ now (path .exit) ≡ traced (readAll (now (b .entry)) limit (length (now (tape .entry)))) (now (path .entry)) ⌝ }
-    ensures { λ _. ⌜ Left (now (b .entry)) (getD (now (told .exit)) 0 0) (now (tape .entry)) (now (tape .exit)) ⌝ }
+    ensures { λ _. ⌜ Tells (λ r. Promised (now (b .entry)) limit r (now (tape .entry)) (now (tape .exit))) (now (told .exit)) (now (path .entry)) (now (path .exit)) ⌝ }
 {
     let a = tape::read(b, limit, tape);
     answer(a, told, path);
@@ -56,8 +55,7 @@ pub extern "C" fn sill_term(
     told: &mut [u64; 7],
     path: &mut [u64; 128],
 )
-    ensures { λ _. ⌜ now (told .exit) ≡ shown (readAt (now (b .entry)) at limit) ⌝ }
-    ensures { λ _. ⌜ now (path .exit) ≡ traced (readAt (now (b .entry)) at limit) (now (path .entry)) ⌝ }
+    ensures { λ _. ⌜ Tells (λ r. r ≡ readAt (now (b .entry)) at limit) (now (told .exit)) (now (path .entry)) (now (path .exit)) ⌝ }
 {
     let a = terms::read(b, at, limit);
     answer(a, told, path);
@@ -73,7 +71,7 @@ pub extern "C" fn sill_find_name(
     told: &mut [u64; 7],
     path: &mut [u64; 128],
 )
-    ensures { λ _. ⌜ Found (now (b .entry)) at limit (key.name (now (name .entry))) (now (told .exit)) (now (path .entry)) (now (path .exit)) ⌝ }
+    ensures { λ _. ⌜ Tells (Looked (now (b .entry)) at limit (key.name (now (name .entry)))) (now (told .exit)) (now (path .entry)) (now (path .exit)) ⌝ }
 {
     let a = lookup::find_name(b, at, limit, name);
     answer(a, told, path);
@@ -89,7 +87,7 @@ pub extern "C" fn sill_find_number(
     told: &mut [u64; 7],
     path: &mut [u64; 128],
 )
-    ensures { λ _. ⌜ Found (now (b .entry)) at limit (key.number number) (now (told .exit)) (now (path .entry)) (now (path .exit)) ⌝ }
+    ensures { λ _. ⌜ Tells (Looked (now (b .entry)) at limit (key.number number)) (now (told .exit)) (now (path .entry)) (now (path .exit)) ⌝ }
 {
     let a = lookup::find_number(b, at, limit, number);
     answer(a, told, path);
@@ -99,7 +97,7 @@ pub extern "C" fn sill_find_number(
 // value in their order, 0 where there are fewer than five: an integer by its two's complement, a double by its bits.
 #[no_mangle]
 pub extern "C" fn sill_head(b: &[u8], at: usize, told: &mut [u64; 9])
-    ensures { λ _. ⌜ now (told .exit) ≡ headed (headAt (now (b .entry)) at) ⌝ }
+    ensures { λ _. ⌜ now (told .exit) ≡ headWords (headAt (now (b .entry)) at) ⌝ }
 {
     let h = heads::head(b, at);
     *told = head(h);
@@ -108,7 +106,7 @@ pub extern "C" fn sill_head(b: &[u8], at: usize, told: &mut [u64; 9])
 // Where the bytes of an atom's name or of a binary stand and how many they are, as heads::part hands them out; 0 and 0 for any other head.
 #[no_mangle]
 pub extern "C" fn sill_part(b: &[u8], at: usize, told: &mut [u64; 2])
-    ensures { λ _. ⌜ now (told .exit) ≡ placed (runOf (headAt (now (b .entry)) at .value)) ⌝ }
+    ensures { λ _. ⌜ now (told .exit) ≡ partWords (runOf (headAt (now (b .entry)) at .value)) ⌝ }
 {
     let h = heads::head(b, at);
     *told = part(h);
@@ -136,7 +134,7 @@ pub extern "C" fn sill_count(filled: &[u64; 4]) -> usize
 // The name in a slot, as cache::get says. Told are number, its place in the store and its length.
 #[no_mangle]
 pub extern "C" fn sill_get(filled: &[u64; 4], store: &[u8], slot: u8, told: &mut [u64; 3])
-    ensures { λ _. ⌜ now (told .exit) ≡ held (gotAt (now (filled .entry)) (now (store .entry)) slot) ⌝ }
+    ensures { λ _. ⌜ now (told .exit) ≡ nameWords (gotAt (now (filled .entry)) (now (store .entry)) slot) ⌝ }
 {
     let words = *filled;
     let g = cache::get(Cache { filled: words }, store, slot);
@@ -152,9 +150,9 @@ pub extern "C" fn sill_header(
     store: &mut [u8],
     told: &mut [u64; 3],
 )
-    ensures { λ _. ⌜ now (told .exit) ≡ said (headerIn (now (b .entry)) (length (now (store .entry)))) ⌝ }
-    ensures { λ _. ⌜ now (filled .exit) ≡ markedAll (headerIn (now (b .entry)) (length (now (store .entry))) .steps) (now (filled .entry)) ⌝ }
-    ensures { λ _. ⌜ now (store .exit) ≡ storedAll (headerIn (now (b .entry)) (length (now (store .entry))) .steps) (now (store .entry)) ⌝ }
+    ensures tells { λ _. ⌜ now (told .exit) ≡ headerWords (headerIn (now (b .entry)) (length (now (store .entry)))) ⌝ }
+    ensures marks { λ _. ⌜ now (filled .exit) ≡ markedAll (headerIn (now (b .entry)) (length (now (store .entry))) .steps) (now (filled .entry)) ⌝ }
+    ensures stores { λ _. ⌜ now (store .exit) ≡ storedAll (headerIn (now (b .entry)) (length (now (store .entry))) .steps) (now (store .entry)) ⌝ }
 {
     let words = *filled;
     let h = cache::header::read(b, Cache { filled: words }, store);
@@ -167,7 +165,7 @@ pub extern "C" fn sill_header(
 // Reads a first fragment's header, as fragments::first does. Told are number, where the rest begins, extra, sequence, fragment and count.
 #[no_mangle]
 pub extern "C" fn sill_first(b: &[u8], told: &mut [u64; 6])
-    ensures { λ _. ⌜ now (told .exit) ≡ first (firstAt (now (b .entry))) ⌝ }
+    ensures { λ _. ⌜ now (told .exit) ≡ firstWords (firstAt (now (b .entry))) ⌝ }
 {
     let f = fragments::first(b);
     *told = [
@@ -183,7 +181,7 @@ pub extern "C" fn sill_first(b: &[u8], told: &mut [u64; 6])
 // The same of a later fragment, as fragments::next does; there is no count.
 #[no_mangle]
 pub extern "C" fn sill_next(b: &[u8], told: &mut [u64; 5])
-    ensures { λ _. ⌜ now (told .exit) ≡ next (nextAt (now (b .entry))) ⌝ }
+    ensures { λ _. ⌜ now (told .exit) ≡ nextWords (nextAt (now (b .entry))) ⌝ }
 {
     let f = fragments::next(b);
     *told = [f.number, f.rest as u64, f.extra, f.sequence, f.fragment];
@@ -199,9 +197,9 @@ pub extern "C" fn sill_utf8(b: &[u8]) -> usize
 
 // The answer of a read or a lookup. The path's words are written only where it has segments: a Done read costs the seven numbers.
 fn answer(a: Answer, told: &mut [u64; 7], path: &mut [u64; 128])
-    requires { ⌜ a .len ≤ 64 ⌝ }
-    ensures { λ _. ⌜ now (told .exit) ≡ shown a ⌝ }
-    ensures { λ _. ⌜ now (path .exit) ≡ traced a (now (path .entry)) ⌝ }
+    requires { ⌜ a .len ≤ cap.nesting ⌝ }
+    ensures shows { λ _. ⌜ now (told .exit) ≡ answerWords a ⌝ }
+    ensures traces { λ _. ⌜ now (path .exit) ≡ pathWords a (now (path .entry)) ⌝ }
 {
     let n = a.len;
     *told = [
@@ -220,36 +218,23 @@ fn answer(a: Answer, told: &mut [u64; 7], path: &mut [u64; 128])
 }
 
 // The first n segments, two words for each.
-fn trace(segments: [Segment; 64], n: usize, path: &mut [u64; 128])
-    requires { ⌜ n ≤ 64 ⌝ }
+fn trace(segments: [Segment; numbers::NESTING], n: usize, path: &mut [u64; 128])
+    requires { ⌜ n ≤ cap.nesting ⌝ }
     ensures { λ _. ⌜ now (path .exit) ≡ sets (now (path .entry)) 0 (spec.segments segments n 0) ⌝ }
 {
     let mut i = 0;
     while i < n {
         let s = segments[i];
         let k = s.kind;
-        path[i * 2] = kind(k);
+        path[i * 2] = reading::kind_number(k);
         path[i * 2 + 1] = s.number;
         i += 1;
     }
 }
 
-fn kind(k: Kind) -> u64
-    ensures { λ r. ⌜ r ≡ kindNumber k ⌝ }
-{
-    match k {
-        Kind::Tuple => 0,
-        Kind::List => 1,
-        Kind::Tail => 2,
-        Kind::Key => 3,
-        Kind::Value => 4,
-        Kind::Free => 5,
-    }
-}
-
 // A head: its fields behind number, tag, offset and extra, and 0 where there are fewer than five.
 fn head(h: Headed) -> [u64; 9]
-    ensures { λ r. ⌜ r ≡ headed h ⌝ }
+    ensures { λ r. ⌜ r ≡ headWords h ⌝ }
 {
     let tag = h.tag as u64;
     let value = h.value;
@@ -303,7 +288,7 @@ fn bits(z: i64) -> u64
 
 // The bytes of an atom's name or of a binary.
 fn part(h: Headed) -> [u64; 2]
-    ensures { λ r. ⌜ r ≡ placed (runOf (h .value)) ⌝ }
+    ensures { λ r. ⌜ r ≡ partWords (runOf (h .value)) ⌝ }
 {
     let value = h.value;
     match value {
@@ -315,7 +300,7 @@ fn part(h: Headed) -> [u64; 2]
 
 // A name in its slot.
 fn name(g: Got) -> [u64; 3]
-    ensures { λ r. ⌜ r ≡ held g ⌝ }
+    ensures { λ r. ⌜ r ≡ nameWords g ⌝ }
 {
     match g {
         Got::Name(p, n) => [0, p as u64, n as u64],

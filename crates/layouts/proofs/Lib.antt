@@ -1,6 +1,5 @@
 pub mod Stands
-pub mod Leaves
-pub mod Sound
-pub mod Complete
-pub mod Accepts
 pub mod Shapes
+pub mod Nodes
+pub mod Proper
+pub mod Values

@@ -1,6 +1,5 @@
 -- What shapes say: the shape told by the bytes of a term is its tree's, so that what stands at a place is one tree at most. Assumes nothing.
 use Prim.Native.Nat.{ℕ, _+_, _^_, _≤_, _<_}
-use native.Mathlib.Nat.{one-le-pow}
 use native.Mathlib.Omega.{arith}
 use mathlib.Core.Path.{_≡_, refl, ap, sym, _∙_, subst}
 use mathlib.Core.List.{List, [], _∷_, _++_}
@@ -8,53 +7,41 @@ use lib.ListN.{length, getD, length-append}
 use mathlib.Core.Bool.{Bool, true, false, cond, _&&_}
 use lib.Dec.{eqb, ltb, leb}
 use borrow.Author.Tests.{lt-ltb, le-ltb, le-leb, lt-leb, eqb-true, eqb-false, ne-eqb}
-use Rattle.fields.specs.Field.{fieldAt}
-use Rattle.fields.specs.declared.Field.{Field}
-use Rattle.fields.specs.declared.Field.the-variants as field
-use Rattle.fields.proofs.Inverse.{is-below}
+use Rattle.numbers.specs.Caps as cap
+use Rattle.fields.specs.Field.{known, numberAt}
 use Rattle.layouts.specs.declared.Shape.{Shape}
 use Rattle.layouts.specs.Tree.{Tree, Forest, node, none, more, leaf, tagOf, frontOf, count, bytes, bytesAll, Stands}
 use Rattle.layouts.specs.Layout as layout
 use Rattle.layouts.specs.Layout.{Number, IsAtom, Leaf, Laid, AllLaid}
-use Rattle.layouts.specs.Shape.{known, numberAt, ends, holds, shapeBy, shapeAt, shapeOf, shortBy, shortAt}
+use Rattle.layouts.specs.Inner.Shape.{ends, inner, shapeBy, shapeAt, shapeOf, shortBy, shortAt}
 use Rattle.layouts.proofs.Stands.{left, right, byte, behind, spells}
-
--- a number that was read, with a bound by its width
-pub number-is : (k : ℕ) (b : List ℕ) (at : ℕ) {f : Field} {r : ℕ} → ((i : ℕ) → getD b i 0 < 256) → f ≡ fieldAt k b at → r ≡ known f → (r ≡ numberAt k b at) × (r < 256 ^ k)
-number-is k b at {f} {r} h e q =
-    let i : r ≡ numberAt k b at = q ∙ ap known e in
-    (i, subst (λ (n : ℕ). n < 256 ^ k) (sym i) (go (fieldAt k b at) refl))
-  where
-    go : (f : Field) → fieldAt k b at ≡ f → known f < 256 ^ k
-    go (field.Is n) e = is-below k b at h e
-    go field.Eof e = one-le-pow k 256 (omega arith)
 
 module _ (b : List ℕ) (p : ℕ) where
   -- the shape at a place by its tag, and where there is none
-  pub by-tag : (tag : ℕ) → p < length b → length b ≤ 16777216 → getD b p 0 ≡ tag → shapeBy b p tag ≡ shapeAt b p
+  pub by-tag : (tag : ℕ) → p < length b → length b ≤ cap.input → getD b p 0 ≡ tag → shapeBy b p tag ≡ shapeAt b p
   unfolding shapeAt
-  by-tag tag h l e = rw (lt-ltb p (length b) h, le-leb (length b) 16777216 l, e)
+  by-tag tag h l e = rw (lt-ltb p (length b) h, le-leb (length b) cap.input l, e)
 
   pub past : length b ≤ p → ends p ≡ shapeAt b p
   unfolding shapeAt
   past h = rw (le-ltb p (length b) h)
 
-  pub large : p < length b → 16777216 < length b → ends p ≡ shapeAt b p
+  pub large : p < length b → cap.input < length b → ends p ≡ shapeAt b p
   unfolding shapeAt
-  large h l = rw (lt-ltb p (length b) h, lt-leb (length b) 16777216 l)
+  large h l = rw (lt-ltb p (length b) h, lt-leb (length b) cap.input l)
 
   -- and the short way
-  pub short-tag : (tag : ℕ) → p < length b → length b ≤ 16777216 → getD b p 0 ≡ tag → shortBy b p tag ≡ shortAt b p
+  pub short-tag : (tag : ℕ) → p < length b → length b ≤ cap.input → getD b p 0 ≡ tag → shortBy b p tag ≡ shortAt b p
   unfolding shortAt
-  short-tag tag h l e = rw (lt-ltb p (length b) h, le-leb (length b) 16777216 l, e)
+  short-tag tag h l e = rw (lt-ltb p (length b) h, le-leb (length b) cap.input l, e)
 
   pub short-past : length b ≤ p → 0 ≡ shortAt b p
   unfolding shortAt
   short-past h = rw (le-ltb p (length b) h)
 
-  pub short-large : p < length b → 16777216 < length b → 0 ≡ shortAt b p
+  pub short-large : p < length b → cap.input < length b → 0 ≡ shortAt b p
   unfolding shortAt
-  short-large h l = rw (lt-ltb p (length b) h, lt-leb (length b) 16777216 l)
+  short-large h l = rw (lt-ltb p (length b) h, lt-leb (length b) cap.input l)
 
   abbrev Short : ℕ → Type 0
   Short t = ¬ (shortBy b p t ≡ 0) → shapeBy b p t ≡ ends (shortBy b p t)
@@ -75,7 +62,7 @@ module _ (b : List ℕ) (p : ℕ) where
 
   pub short-is : ¬ (shortAt b p ≡ 0) → shapeAt b p ≡ ends (shortAt b p)
   unfolding shortAt shapeAt
-  short-is = go (ltb p (length b) && leb (length b) 16777216)
+  short-is = go (ltb p (length b) && leb (length b) cap.input)
     where
       go : (x : Bool) → ¬ (cond x (shortBy b p (getD b p 0)) 0 ≡ 0) → cond x (shapeBy b p (getD b p 0)) (ends p) ≡ ends (cond x (shortBy b p (getD b p 0)) 0)
       go true h = by-tags (getD b p 0) h
@@ -109,7 +96,7 @@ module _ (b : List ℕ) (p : ℕ) where
   leaf-is (layout.large-big n sign r w) s = sized 1 n (sign ∷ r) w (omega arith) s
 
   -- shapes are one by their numbers
-  alike : {n n' m m' q q' : ℕ} → q ≡ q' → n ≡ n' → m ≡ m' → holds q n m ≡ holds q' n' m'
+  alike : {n n' m m' q q' : ℕ} → q ≡ q' → n ≡ n' → m ≡ m' → inner q n m ≡ inner q' n' m'
   alike e f g = rw (e, f, g)
 
   -- any row: a count stands first in its front, but for a function's, which stands last
@@ -130,7 +117,7 @@ module _ (b : List ℕ) (p : ℕ) where
       alike (simp length-append (omega (arith, w .wide))) (omega arith) refl
 
 -- the bytes of a term tell its shape
-pub shape-is : (b : List ℕ) (p : ℕ) (x : Tree) → length b ≤ 16777216 → Laid x → Stands b p (bytes x) → shapeAt b p ≡ shapeOf x p
+pub shape-is : (b : List ℕ) (p : ℕ) (x : Tree) → length b ≤ cap.input → Laid x → Stands b p (bytes x) → shapeAt b p ≡ shapeOf x p
 unfolding bytes
 shape-is b p (node tag front kids back) l a s =
     let r = front ++ (bytesAll kids ++ back) in
@@ -184,7 +171,7 @@ mutual
   unfolding bytes count
 
   -- trees that stand at one place are one
-  pub unique : (b : List ℕ) (p : ℕ) (x y : Tree) → length b ≤ 16777216 → Laid x → Laid y → Stands b p (bytes x) → Stands b p (bytes y) → x ≡ y
+  pub unique : (b : List ℕ) (p : ℕ) (x y : Tree) → length b ≤ cap.input → Laid x → Laid y → Stands b p (bytes x) → Stands b p (bytes y) → x ≡ y
   unique b p (node tag front ts back) (node tag' front' ts' back') h a a' s s' =
       let e : shapeOf (node tag front ts back) p ≡ shapeOf (node tag' front' ts' back') p = sym (shape-is b p _ h a s) ∙ shape-is b p _ h a' s' in
       let t : tag ≡ tag' = sym (byte b p tag _ s) ∙ byte b p tag' _ s' in
@@ -195,11 +182,11 @@ mutual
       let q = right b (p + 1) front (bytesAll ts ++ back) r in
       let q' = right b (p + 1) front' (bytesAll ts' ++ back') r' in
       let k : ts ≡ ts' = unique-all b (p + 1 + length front) ts ts' h (kids-laid a) (kids-laid a') (ap (λ (g : Shape). g .kids) e) (left b _ (bytesAll ts) back q) (moved (sym lf) (left b _ (bytesAll ts') back' q')) in
-      let z : back ≡ back' = same-run (rw (k, f)) (ap (λ (g : Shape). g .more) e) (right b _ (bytesAll ts) back q) (right b _ (bytesAll ts') back' q') in
+      let z : back ≡ back' = same-run (rw (k, f)) (ap (λ (g : Shape). g .back) e) (right b _ (bytesAll ts) back q) (right b _ (bytesAll ts') back' q') in
       rw (t, f, k, z)
 
   -- side by side, and as many
-  unique-all : (b : List ℕ) (p : ℕ) (xs ys : Forest) → length b ≤ 16777216 → AllLaid xs → AllLaid ys → count xs ≡ count ys → Stands b p (bytesAll xs) → Stands b p (bytesAll ys) → xs ≡ ys
+  unique-all : (b : List ℕ) (p : ℕ) (xs ys : Forest) → length b ≤ cap.input → AllLaid xs → AllLaid ys → count xs ≡ count ys → Stands b p (bytesAll xs) → Stands b p (bytesAll ys) → xs ≡ ys
   unique-all b p none none h a a' e s s' = refl
   unique-all b p none (more y ys) h a a' e s s' = absurd (omega arith)
   unique-all b p (more x xs) none h a a' e s s' = absurd (omega arith)

@@ -8,7 +8,7 @@ use Rattle.fields.specs.Be.{be}
 use Rattle.utf8.specs.Good.{Scalars, spelled}
 use Rattle.literal.specs.Trim.{Trimmed}
 use Rattle.literal.specs.Literal.{Literal}
-use Rattle.rows.specs.Caps as cap
+use Rattle.numbers.specs.Caps as cap
 use Rattle.layouts.specs.Tree.{Tree, Forest, node, none, more, leaf, tagOf, count}
 
 -- "Numbers are big-endian": the bytes l are the number n, in k bytes
@@ -41,7 +41,8 @@ pub data IsAtom : ℕ → Type 0 where
   atom-118 : IsAtom 118
   atom-119 : IsAtom 119
 
--- "an integer child 97 or 98", from 0 to `most`. A negative one of tag 98 spells 2 ^ 31 or more, which is above every `most`
+-- "an integer child 97 or 98", from 0 to `most`. A negative one of tag 98 spells 2 ^ 31 or more, which is above every `most`;
+-- and of 4 bytes just the numbers up to 2147483647 stand for themselves, 0 or more (`signed-natural`, fields/proofs/Laws.antt)
 pub data IsNatural (most : ℕ) : Tree → Type 0 where
   natural-97 : {l : List ℕ} → be l ≤ most → IsNatural most (leaf 97 l)
   natural-98 : {l : List ℕ} → be l ≤ most → IsNatural most (leaf 98 l)
@@ -64,9 +65,9 @@ pub data Leaf : ℕ → List ℕ → Type 0 where
   -- "107: length of 2 bytes, bytes; a list of integers 0 to 255"
   string : (n s : List ℕ) → Number 2 n (length s) → Leaf 107 (n ++ s)
   -- "109: length of 4 bytes, bytes"
-  binary : (n s : List ℕ) → Number 4 n (length s) → length s ≤ cap.length → Leaf 109 (n ++ s)
+  binary : (n s : List ℕ) → Number 4 n (length s) → length s ≤ cap.binary → Leaf 109 (n ++ s)
   -- "77: length of 4 bytes, bits byte, bytes"
-  bit-string : (n : List ℕ) (k : ℕ) (s : List ℕ) → Number 4 n (length s) → length s ≤ cap.length → BitsByte (length s) k → Leaf 77 (n ++ (k ∷ s))
+  bit-string : (n : List ℕ) (k : ℕ) (s : List ℕ) → Number 4 n (length s) → length s ≤ cap.binary → BitsByte (length s) k → Leaf 77 (n ++ (k ∷ s))
   -- "110 / 111: n of 1 / 4 bytes, sign byte (nonzero is negative), n digit bytes, least first"
   small-big : (n : List ℕ) (sign : ℕ) (s : List ℕ) → Number 1 n (length s) → Leaf 110 (n ++ (sign ∷ s))
   large-big : (n : List ℕ) (sign : ℕ) (s : List ℕ) → Number 4 n (length s) → Leaf 111 (n ++ (sign ∷ s))
@@ -81,7 +82,7 @@ mutual
     -- "108: length of 4 bytes, children, then a tail child"
     list : {n : List ℕ} {m : ℕ} {ts : Forest} → Number 4 n m → m ≤ cap.elements → count ts ≡ m + 1 → AllLaid ts → Laid (node 108 n ts [])
     -- "116: arity of 4 bytes, key and value pairs"
-    map : {n : List ℕ} {m : ℕ} {ts : Forest} → Number 4 n m → m ≤ cap.entries → count ts ≡ 2 * m → AllLaid ts → Laid (node 116 n ts [])
+    map : {n : List ℕ} {m : ℕ} {ts : Forest} → Number 4 n m → m ≤ cap.pairs → count ts ≡ 2 * m → AllLaid ts → Laid (node 116 n ts [])
     -- "88: atom child, id, serial, creation, 4 bytes each"
     pid : {x : Tree} {k : List ℕ} → Laid x → IsAtom (tagOf x) → length k ≡ 12 → Laid (node 88 [] (more x none) k)
     -- "90: count of 2 bytes, atom child, creation 4, count ids of 4"
@@ -100,3 +101,12 @@ mutual
   pub data AllLaid : Forest → Type 0 where
     no-more : AllLaid none
     one-more : {t : Tree} {ts : Forest} → Laid t → AllLaid ts → AllLaid (more t ts)
+
+-- the tail of a list, by its children: the last of them
+pub data Tail : Forest → Tree → Type 0 where
+  only : {t : Tree} → Tail (more t none) t
+  after : {x t : Tree} {ts : Forest} → Tail ts t → Tail (more x ts) t
+
+-- "A list is proper exactly when its tail child has tag 106"
+pub data Proper : Tree → Type 0 where
+  proper : {n : List ℕ} {ts : Forest} {t : Tree} → Tail ts t → tagOf t ≡ 106 → Proper (node 108 n ts [])

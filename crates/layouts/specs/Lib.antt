@@ -1,3 +1,5 @@
 pub mod Tree
 pub mod Layout
-pub mod Shape
+pub mod Nodes
+pub mod Values
+pub mod Inner

@@ -5,7 +5,7 @@ use mathlib.Core.Bool.{false≢true}
 use mathlib.Core.List.{[], _∷_}
 use Rattle.literal.specs.Trim.{trimmed}
 use Rattle.literal.specs.Literal.{Literal}
-use Rattle.literal.specs.Parse.{isLiteral}
+use Rattle.literal.specs.Inner.Parse.{isLiteral}
 use Rattle.literal.proofs.Meaning.{literal-is}
 
 -- 1 0 with a zero byte between them and two after them: the last two are cut off

@@ -10,7 +10,7 @@ use borrow.Author.Tests.{eqb-true, eq-eqb, ne-eqb, leb-true, le-leb, ltb-true, l
 use lib.Dec.{eqb, ltb}
 use lib.ListN.{length, getD, drop, length-append}
 use Rattle.literal.specs.Literal.{Sign, unsigned, plus, minus, signText, Digit, Digits, none, more, Cased, Word, end, letter, Point, no-point, a-point, Exponent, absent, power, Power, no-power, a-power, Value, number, inf-text, infinity-text, nan-text, Spells, inf, infinity, not-a-number, digits, Literal}
-use Rattle.literal.specs.Parse.{afterSign, isDigit, afterDigits, isCased, isWord, isEnding, isNumber, isLiteral}
+use Rattle.literal.specs.Inner.Parse.{afterSign, isDigit, afterDigits, isCased, isWord, isEnding, isNumber, isLiteral}
 use Rattle.literal.proofs.Pieces as pieces
 
 either : (a b : Bool) → a || b ≡ true → (a ≡ true) ⊎ (b ≡ true)

@@ -8,7 +8,7 @@ use native.Mathlib.Omega.{arith}
 use lib.Dec.{eqb}
 use lib.ListN.{getD}
 use Rattle.literal.specs.Literal.{Sign, unsigned, plus, minus, signText, Digits, none, more, Word, letter, Point, no-point, a-point, Exponent, Power, no-power, a-power, Value, number, Spells, inf, infinity, not-a-number, digits, Literal}
-use Rattle.literal.specs.Parse.{afterSign, afterDigits}
+use Rattle.literal.specs.Inner.Parse.{afterSign, afterDigits}
 use Rattle.literal.proofs.Meaning.{sign-passes, digits-pass, digits-first, ending-first, after-whole, word-first, spells-first}
 
 signOf : List ℕ → Sign

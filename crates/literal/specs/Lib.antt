@@ -1,3 +1,3 @@
 pub mod Trim
 pub mod Literal
-pub mod Parse
+pub mod Inner

@@ -5,7 +5,7 @@
 // Copyright (C) 2025-2026 Michael S. Klishin and Contributors, Apache-2.0, see NOTICE.
 ghost use mathlib.Core.Path.{_≡_};
 ghost use Rattle.literal.specs.Trim.{trimmed};
-ghost use Rattle.literal.specs.Parse.{afterSign, isDigit, afterDigits, isCased, isWord, isEnding, isNumber, isLiteral};
+ghost use Rattle.literal.specs.Inner.Parse.{afterSign, isDigit, afterDigits, isCased, isWord, isEnding, isNumber, isLiteral};
 
 // How many bytes are left of s without its trailing zero bytes.
 pub fn trim(s: &[u8]) -> usize

@@ -6,13 +6,14 @@ use mathlib.Core.Path.{_≡_, refl, ap, sym, _∙_}
 use mathlib.Core.List.{List, _++_}
 use mathlib.Core.Bool.{Bool, true, false, cond}
 use lib.ListN.{length}
+use Rattle.numbers.specs.Caps as cap
 use Rattle.layouts.specs.Tree.{Tree, Forest, none, more, count, bytes, bytesAll, Stands}
 use Rattle.layouts.specs.Layout.{AllLaid, one-more}
 use Rattle.layouts.proofs.Stands.{left, right}
 use Rattle.lookup.specs.declared.Place.{Place}
 use Rattle.lookup.specs.declared.Place.the-variants as place
 use Rattle.lookup.specs.Lookup.{Key, equal, orElse, found}
-use Rattle.lookup.specs.Walk.{Term, Terms, OneTerm, Ends, Judges}
+use Rattle.lookup.specs.Inner.Walk.{Term, Terms, OneTerm, Ends, Judges}
 
 -- a key and its value, and what is left behind them
 pub record Entry (b : List ℕ) (p n : ℕ) (ts : Forest) : Type 0 where
@@ -80,7 +81,7 @@ module _ {b : List ℕ} {p n : ℕ} {k : Key} {all before : Place} (s : Left b p
     abbrev here : Entry b p n (s .rest)
     here = entry h (s .are)
 
-    pub a-key : length b ≤ 16777216 → OneTerm b p
+    pub a-key : length b ≤ cap.input → OneTerm b p
     a-key l = record { short = l; tree = here .key; is = here .key-at }
 
     value-is : {v : ℕ} → Ends b p v → v ≡ p + length (bytes (here .key))
@@ -89,7 +90,7 @@ module _ {b : List ℕ} {p n : ℕ} {k : Key} {all before : Place} (s : Left b p
     value-at : {v : ℕ} → Ends b p v → Term b v (here .value)
     value-at e = rw (value-is e) (here .value-at)
 
-    pub a-value : length b ≤ 16777216 → {v : ℕ} → Ends b p v → OneTerm b v
+    pub a-value : length b ≤ cap.input → {v : ℕ} → Ends b p v → OneTerm b v
     a-value l e = record { short = l; tree = here .value; is = value-at e }
 
     -- one entry on

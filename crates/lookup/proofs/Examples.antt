@@ -11,11 +11,11 @@ use lib.Seq.{take-length}
 use Rattle.fields.specs.Be.{be, signed}
 use Rattle.utf8.specs.Unicode.{scalar, encode}
 use Rattle.utf8.specs.Good as good
-use Rattle.terms.specs.declared.Answer.{Answer}
-use Rattle.terms.specs.Answer.{readAt}
+use Rattle.reading.specs.declared.Answer.{Answer}
+use Rattle.reading.specs.Answer.{readAt}
 use Rattle.layouts.specs.Tree.{Tree, node, none, more, leaf, count, bytes, size, depth, Stands}
 use Rattle.layouts.specs.Layout.{Laid, Utf8, row, map, nil, small-integer, integer, small-atom, string, small-big, no-more, one-more}
-use Rattle.layouts.proofs.Accepts.{read-complete}
+use Rattle.accepts.proofs.Accepts.{read-complete}
 use Rattle.lookup.specs.Lookup.{Key, name, number, sameBytes, sameInteger, equal, found, looked, Looked}
 
 -- a term that is there is read, and what is looked up in it goes by its tree

@@ -20,7 +20,7 @@ use Rattle.layouts.specs.Tree.{Tree, node, leaf, tagOf, frontOf, bytes, Stands}
 use Rattle.layouts.specs.Layout.{Laid, row, small-integer, integer, old-atom, atom, small-atom}
 use Rattle.layouts.proofs.Stands.{left, right, byte, behind}
 use Rattle.lookup.specs.Lookup.{name, number, sameBytes, sameInteger, equal}
-use Rattle.lookup.specs.Walk.{Term, Ends}
+use Rattle.lookup.specs.Inner.Walk.{Term, Ends}
 use Rattle.lookup.proofs.Compare.{by-bits}
 
 -- the tag k, and no other; the tags of a name behind a length of two bytes

@@ -7,25 +7,27 @@ use mathlib.Core.Bool.{Bool, true, false, cond, _||_}
 use lib.Dec.{ltb, eqb}
 use lib.ListN.{length, getD}
 use borrow.Author.Tests.{ltb-false, eq-eqb, ne-eqb}
-use Rattle.rows.specs.Numbers as answer
-use Rattle.terms.specs.declared.Answer.{Answer}
-use Rattle.terms.specs.Answer.{refusal, before, readAt}
+use Rattle.numbers.specs.Caps as cap
+use Rattle.numbers.specs.Numbers as answer
+use Rattle.reading.specs.declared.Answer.{Answer}
+use Rattle.reading.specs.Answer.{refusal, readAt}
+use Rattle.reading.proofs.Answers.{read-short}
 use Rattle.layouts.specs.declared.Shape.{Shape}
-use Rattle.layouts.specs.Shape.{shapeAt}
+use Rattle.layouts.specs.Inner.Shape.{shapeAt}
 use Rattle.layouts.specs.Tree.{Tree, Forest, node, bytes, bytesAll}
 use Rattle.layouts.proofs.Stands.{left, right, behind}
 use Rattle.layouts.proofs.Shapes.{shape-is, kids-laid}
-use Rattle.layouts.proofs.Accepts.{read-sound}
+use Rattle.accepts.proofs.Accepts.{read-sound}
 use Rattle.lookup.specs.declared.Place.{Place}
 use Rattle.lookup.specs.Lookup.{Key, told, found, looked, Looked}
-use Rattle.lookup.specs.Walk.{Term, Terms, OneTerm, SomeTerms, Finds}
+use Rattle.lookup.specs.Inner.Walk.{Term, Terms, OneTerm, SomeTerms, Finds}
 use Rattle.lookup.proofs.Keys.{tag-is}
 
 -- the children of a term, and where they stand
 abbrev kidsOf : Tree → Forest
 kidsOf (node tag front kids back) = kids
 
-kids-at : {b : List ℕ} {p : ℕ} (t : Tree) → length b ≤ 16777216 → Term b p t → (s : Shape) → s ≡ shapeAt b p → Terms b (s .from) (s .kids) (kidsOf t)
+kids-at : {b : List ℕ} {p : ℕ} (t : Tree) → length b ≤ cap.input → Term b p t → (s : Shape) → s ≡ shapeAt b p → Terms b (s .from) (s .kids) (kidsOf t)
 unfolding bytes
 kids-at {b} {p} (node tag front kids back) h i s e =
     rw (e ∙ shape-is b p (node tag front kids back) h (i .laid) (i .stands))
@@ -41,14 +43,8 @@ module _ (b : List ℕ) (at limit : ℕ) {a : Answer} (is : a ≡ readAt b at li
     fine : readAt b at limit .number ≡ 0
     fine = ap (λ (x : Answer). x .number) (sym is) ∙ ok
 
-    pub short : length b ≤ 16777216
-    unfolding readAt
-    short = go (eqb limit 0 || ltb 64 limit) (ltb 16777216 (length b)) _ refl fine
-      where
-        go : (x y : Bool) (r : Answer) → ltb 16777216 (length b) ≡ y → cond x (before answer.Limit) (cond y (before answer.Long) r) .number ≡ 0 → length b ≤ 16777216
-        go true y r e h = absurd (omega arith)
-        go false true r e h = absurd (omega arith)
-        go false false r e h = ltb-false 16777216 (length b) e
+    pub short : length b ≤ cap.input
+    short = read-short b at limit fine
 
     pub a-term : OneTerm b at
     a-term = let f = read-sound b at limit fine in record { short = short; tree = f .tree; is = record { laid = f .laid; stands = f .stands } }

@@ -1,5 +1,5 @@
--- What the promise of a lookup means: it leaves one answer, whose path has 64 segments at most, and what is found is the value of the last
--- equal key. Assumes nothing.
+-- What the promise of a lookup means: it leaves one answer, whose path has 64 segments at most and whose number is Done or of the list, and
+-- what is found is the value of the last equal key. Assumes nothing.
 use Prim.Native.Nat.{ℕ, zero, suc, _+_, _*_, _≤_}
 use native.Mathlib.Omega.{arith}
 use mathlib.Core.Path.{_≡_, refl, ap, sym, _∙_}
@@ -8,17 +8,21 @@ use mathlib.Core.Bool.{Bool, true, false, cond}
 use lib.Dec.{eqb}
 use lib.ListN.{length}
 use borrow.Author.Tests.{eqb-true, eqb-false}
-use Rattle.rows.specs.Numbers as number
-use Rattle.terms.specs.declared.Answer.{Answer}
-use Rattle.terms.specs.Answer.{refusal, readAt}
-use Rattle.terms.proofs.Bounds as bounds
+use Rattle.numbers.specs.Caps as cap
+use Rattle.numbers.specs.Numbers as number
+use Rattle.numbers.specs.Numbers.{among, Listed, outcome, Shown}
+use Rattle.numbers.proofs.Laws.{listed-shown, by-test}
+use Rattle.reading.specs.declared.Answer.{Answer}
+use Rattle.reading.specs.Answer.{refusal, readAt}
+use Rattle.reading.proofs.Bounds as bounds
+use Rattle.reading.proofs.Outcomes.{read-shown}
 use Rattle.layouts.specs.Tree.{Tree, Forest, node, none, more, count, bytes, Stands}
 use Rattle.layouts.specs.Layout.{Laid}
-use Rattle.layouts.proofs.Accepts.{read-sound}
+use Rattle.accepts.proofs.Accepts.{read-sound}
 use Rattle.lookup.specs.declared.Place.{Place}
 use Rattle.lookup.specs.declared.Place.the-variants as place
 use Rattle.lookup.specs.Lookup.{Key, equal, orElse, found, told, looked, Looked}
-use Rattle.lookup.specs.Last.{Without, no-pairs, one-more, Last, first, later, Says}
+use Rattle.lookup.specs.Inner.Last.{Without, no-pairs, one-more, Last, first, later, Says}
 
 -- two answers that the promise allows are one
 pub one-answer : {b : List ℕ} {at limit : ℕ} {k : Key} {r r' : Answer} → Looked b at limit k r → Looked b at limit k r' → r ≡ r'
@@ -31,29 +35,35 @@ one-answer {b} {at} {limit} {k} {r} {r'} l l' = go (eqb (readAt b at limit .numb
         let f = read-sound b at limit e in
         l .done e (f .tree) (f .laid) (f .stands) ∙ sym (l' .done e (f .tree) (f .laid) (f .stands))
 
--- its path is the reading's, or empty
-pub few-segments : {b : List ℕ} {at limit : ℕ} {k : Key} {r : Answer} → Looked b at limit k r → r .len ≤ 64
-unfolding looked
-few-segments {b} {at} {limit} {k} {r} l = go (eqb (readAt b at limit .number) 0) refl
+-- what the reading's answer has, at whatever offset, and a refusal behind it with its counts, every answer that the promise allows has
+answers : {b : List ℕ} {at limit : ℕ} {k : Key} {r : Answer} → Looked b at limit k r → (P : Answer → Type 0) → P (readAt b at limit) →
+    ((q : ℕ) → P (told at (readAt b at limit) (place.At q))) →
+    ((n x : ℕ) → Listed n → P (refusal n at x (readAt b at limit .begun) (readAt b at limit .deepest) [])) → P r
+unfolding looked among
+answers {b} {at} {limit} {k} {r} l P read finds refuses = go (eqb (readAt b at limit .number) 0) refl
   where
-    read : readAt b at limit .len ≤ 64
-    read = bounds.few-segments b at limit
+    tells : (o : Place) → P (told at (readAt b at limit) o)
+    tells (place.At q) = finds q
+    tells place.Nowhere = refuses number.Absent 0 refl
 
-    tells : (map : Bool) (o : Place) (tag : ℕ) →
-        cond map (told at (readAt b at limit) o) (refusal number.Kind at tag (readAt b at limit .begun) (readAt b at limit .deepest) []) .len ≤ 64
-    tells true (place.At q) tag = read
-    tells true place.Nowhere tag = omega arith
-    tells false o tag = omega arith
+    looks : (t : Tree) → P (looked k at t (readAt b at limit))
+    looks (node tag front kids back) = by-test P (eqb tag 116) _ _ (tells (found k (at + 1 + length front) kids)) (refuses number.Kind tag refl)
 
-    looks : (t : Tree) → looked k at t (readAt b at limit) .len ≤ 64
-    looks (node tag front kids back) = tells (eqb tag 116) (found k (at + 1 + length front) kids) tag
-
-    go : (x : Bool) → eqb (readAt b at limit .number) 0 ≡ x → r .len ≤ 64
+    go : (x : Bool) → eqb (readAt b at limit .number) 0 ≡ x → P r
     go false h = rw (l .refused (eqb-false (readAt b at limit .number) 0 h)) read
     go true h =
         let e = eqb-true (readAt b at limit .number) 0 h in
         let f = read-sound b at limit e in
         rw (l .done e (f .tree) (f .laid) (f .stands)) (looks (f .tree))
+
+module _ {b : List ℕ} {at limit : ℕ} {k : Key} {r : Answer} (l : Looked b at limit k r) where
+  -- its path is the reading's, or empty
+  pub few-segments : r .len ≤ cap.nesting
+  few-segments = let read = bounds.few-segments b at limit in answers l (λ a. a .len ≤ cap.nesting) read (λ q. read) (λ n x h. omega arith)
+
+  -- it is Done, or refused by a number of the list
+  pub answer-shown : Shown (outcome (r .number))
+  answer-shown = let read = read-shown b limit at in answers l (λ a. Shown (outcome (a .number))) read (λ q. read) (λ n x. listed-shown n)
 
 module _ (k : Key) where
   -- what is found in m pairs is what the words say

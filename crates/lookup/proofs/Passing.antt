@@ -5,13 +5,14 @@ use native.Mathlib.Omega.{arith}
 use mathlib.Core.Path.{_≡_, refl, ap, sym, _∙_, subst}
 use mathlib.Core.List.{List, [], _∷_, _++_, append-assoc, append-nil}
 use lib.ListN.{length, length-append}
+use Rattle.numbers.specs.Caps as cap
 use Rattle.layouts.specs.declared.Shape.{Shape}
-use Rattle.layouts.specs.Shape.{shapeAt, shapeOf}
+use Rattle.layouts.specs.Inner.Shape.{shapeAt, shapeOf}
 use Rattle.layouts.specs.Tree.{Tree, Forest, node, none, more, leaf, count, bytes, bytesAll, Stands}
 use Rattle.layouts.specs.Layout.{Laid, AllLaid, no-more, one-more}
 use Rattle.layouts.proofs.Stands.{left, right, behind}
 use Rattle.layouts.proofs.Shapes.{shape-is, kids-laid, one-leaf, OneLeaf}
-use Rattle.lookup.specs.Walk.{Term, Terms}
+use Rattle.lookup.specs.Inner.Walk.{Term, Terms, Ends}
 
 -- one row of terms behind another
 unfoldable join : Forest → Forest → Forest
@@ -108,7 +109,7 @@ empty [] h = refl
 empty (x ∷ l) h = absurd (omega arith)
 
 -- one child without children ends where its shape says
-leaf-end : (b : List ℕ) (p : ℕ) {kids : Forest} → length b ≤ 16777216 → OneLeaf kids → AllLaid kids → Stands b p (bytesAll kids) → shapeAt b p .from ≡ p + length (bytesAll kids)
+leaf-end : (b : List ℕ) (p : ℕ) {kids : Forest} → length b ≤ cap.input → OneLeaf kids → AllLaid kids → Stands b p (bytesAll kids) → shapeAt b p .from ≡ p + length (bytesAll kids)
 unfolding bytes
 leaf-end b p short o = subst (λ (ks : Forest). AllLaid ks → Stands b p (bytesAll ks) → shapeAt b p .from ≡ p + length (bytesAll ks)) (sym (o .is)) go
   where
@@ -120,7 +121,7 @@ pub record Step (b : List ℕ) (p e p' n' : ℕ) : Type 0 where
   pub rest : Owed b p' n' e
   pub rises : p < p'
 
-module _ {b : List ℕ} {p n e : ℕ} (o : Owed b p n e) (some : 0 < n) (short : length b ≤ 16777216) {s : Shape} (is : s ≡ shapeAt b p) where
+module _ {b : List ℕ} {p n e : ℕ} (o : Owed b p n e) (some : 0 < n) (short : length b ≤ cap.input) {s : Shape} (is : s ≡ shapeAt b p) where
   abbrev x : First b p n e
   x = apart some o
 
@@ -142,9 +143,9 @@ module _ {b : List ℕ} {p n e : ℕ} (o : Owed b p n e) (some : 0 < n) (short :
   long = sym (x .ends) ∙ ap (λ (l : List ℕ). p + length l) spread ∙ simp length-append (omega arith)
 
   -- where no bytes stand behind its children, they take its place
-  pub goes-into : s .more ≡ 0 → Step b p e (s .from) (n - 1 + s .kids)
+  pub goes-into : s .back ≡ 0 → Step b p e (s .from) (n - 1 + s .kids)
   goes-into h =
-      let f : x .back ≡ [] = empty (x .back) (ap (λ (g : Shape). g .more) (sym shape) ∙ h) in
+      let f : x .back ≡ [] = empty (x .back) (ap (λ (g : Shape). g .back) (sym shape) ∙ h) in
       let g : bytesAll (x .kids) ++ (x .back ++ bytesAll (x .others)) ≡ bytesAll (join (x .kids) (x .others)) = rw f (sym (join-bytes (x .kids) (x .others))) in
       let j : length (bytesAll (join (x .kids) (x .others))) ≡ length (bytesAll (x .kids)) + (length (x .back) + length (bytesAll (x .others))) = ap length (sym g) ∙ simp length-append in
       rw shape
@@ -164,10 +165,10 @@ module _ {b : List ℕ} {p n e : ℕ} (o : Owed b p n e) (some : 0 < n) (short :
       })
 
   -- bytes stand only behind one atom: it and they are passed
-  pub goes-over : {s' : Shape} → s' ≡ shapeAt b (s .from) → ¬ (s .more ≡ 0) → Step b p e (s' .from + s .more) (n - 1)
+  pub goes-over : {s' : Shape} → s' ≡ shapeAt b (s .from) → ¬ (s .back ≡ 0) → Step b p e (s' .from + s .back) (n - 1)
   goes-over {s'} is' h =
       let q : ℕ = p + 1 + length (x .front) in
-      let one = one-leaf (x .laid) (λ z. h (ap (λ (g : Shape). g .more) shape ∙ ap length z)) in
+      let one = one-leaf (x .laid) (λ z. h (ap (λ (g : Shape). g .back) shape ∙ ap length z)) in
       let f : s' .from ≡ q + length (bytesAll (x .kids)) = ap (λ (g : Shape). g .from) (is' ∙ ap (λ (g : Shape). shapeAt b (g .from)) shape) ∙ leaf-end b q short one (kids-laid (x .laid)) (left b q (bytesAll (x .kids)) _ inner) in
       rw (f, shape)
       (record {
@@ -179,3 +180,23 @@ module _ {b : List ℕ} {p n e : ℕ} (o : Owed b p n e) (some : 0 < n) (short :
             };
         rises = omega arith;
       })
+
+-- a term without children ends where its shape says
+pub leaf-ends : {b : List ℕ} {p : ℕ} {s : Shape} → length b ≤ cap.input → s ≡ shapeAt b p → s .kids ≡ 0 → Ends b p (s .from)
+unfolding bytes count
+leaf-ends {b} {p} {s} short e z = record { is = λ t x. by-tree t x (e ∙ shape-is b p t short (x .laid) (x .stands)) }
+  where
+    behind-none : {tag : ℕ} {front back : List ℕ} → Laid (node tag front none back) → back ≡ []
+    behind-none {back = []} l = refl
+    behind-none {back = x ∷ r} l =
+        let o = one-leaf l (λ h. absurd (let n : _≡_ {A = ℕ} (suc (length r)) 0 = ap length h in omega arith)) in
+        absurd (let n : count none ≡ count (more (leaf (o .tag) (o .front)) none) = ap count (o .is) in omega arith)
+
+    by-tree : (t : Tree) → Term b p t → s ≡ shapeOf t p → s .from ≡ p + length (bytes t)
+    by-tree (node tag front none back) x f =
+        let h = behind-none (x .laid) in
+        let g : s .from ≡ p + 1 + length front = ap (λ (q : Shape). q .from) f in
+        simp length-append (omega (arith, ap (length {A = ℕ}) h))
+    by-tree (node tag front (more y ys) back) x f =
+        let g : s .kids ≡ suc (count ys) = ap (λ (q : Shape). q .kids) f in
+        absurd (omega arith)

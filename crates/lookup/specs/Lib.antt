@@ -1,3 +1,2 @@
 pub mod Lookup
-pub mod Last
-pub mod Walk
+pub mod Inner

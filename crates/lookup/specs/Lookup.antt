@@ -8,9 +8,9 @@ use lib.Dec.{eqb}
 use lib.IntN.{ℤ, pos, negsuc}
 use lib.ListN.{length, drop}
 use Rattle.fields.specs.Be.{be, signed}
-use Rattle.rows.specs.Numbers as answer
-use Rattle.terms.specs.declared.Answer.{Answer}
-use Rattle.terms.specs.Answer.{refusal, readAt}
+use Rattle.numbers.specs.Numbers as answer
+use Rattle.reading.specs.declared.Answer.{Answer}
+use Rattle.reading.specs.Answer.{refusal, readAt}
 use Rattle.layouts.specs.Tree.{Tree, Forest, node, none, more, bytes, Stands}
 use Rattle.layouts.specs.Layout.{Laid}
 use Rattle.lookup.specs.declared.Place.{Place}

@@ -3,13 +3,14 @@
 // It stands over terms, which reads the map whole and judges it, and over layouts, which says where the parts of a good term lie. So the
 // walk over the entries judges nothing: it passes each term once, and compares each key.
 use fields::Integer;
-use terms::Answer;
+use reading::Answer;
+use reading::Cause;
 ghost use mathlib.Core.Path.{_≡_};
 ghost use Prim.Native.Nat.{_+_, _-_, _≤_};
 ghost use lib.ListN.{length, take, drop};
 ghost use Rattle.lookup.specs.Lookup.{Looked, sameBytes};
 ghost use Rattle.lookup.specs.Lookup as key;
-ghost use Rattle.lookup.specs.Walk.{keyOf, OneTerm, SomeTerms, Ends, Judges, Finds};
+ghost use Rattle.lookup.specs.Inner.Walk.{keyOf, OneTerm, SomeTerms, Ends, Judges, Finds};
 
 // What is looked for: an atom's name, which is passed beside it, or an integer.
 enum Key {
@@ -45,12 +46,12 @@ fn find(b: &[u8], at: usize, limit: usize, key: Key, name: &[u8]) -> Answer
     ensures { λ r. ⌜ Looked (now (b .entry)) at limit (keyOf key (now (name .entry))) r ⌝ }
 {
     let mut a = terms::read(b, at, limit);
-    if a.number != 0 {
+    if a.number != numbers::DONE {
         return a;
     }
     let tag = b[at];
     if tag != 116 {
-        return terms::refusal(rows::KIND, at, tag as u64, a.begun, a.deepest);
+        return reading::refusal(Cause::Kind, at, tag as u64, a.begun, a.deepest);
     }
     let s = layouts::shape_at(b, at);
     match last(b, s.from, s.kids, key, name) {
@@ -58,7 +59,7 @@ fn find(b: &[u8], at: usize, limit: usize, key: Key, name: &[u8]) -> Answer
             a.offset = value;
             a
         }
-        Place::Nowhere => terms::refusal(rows::ABSENT, at, 0, a.begun, a.deepest),
+        Place::Nowhere => reading::refusal(Cause::Absent, at, 0, a.begun, a.deepest),
     }
 }
 
@@ -68,34 +69,34 @@ fn last(b: &[u8], from: usize, n: usize, key: Key, name: &[u8]) -> Place
     ensures { λ r. ⌜ Finds (now (b .entry)) from n (keyOf key (now (name .entry))) r ⌝ }
 {
     let mut found = Place::Nowhere;
-    let mut pos = from;
+    let mut at = from;
     let mut left = n;
     while 1 < left {
-        let value = skip(b, pos);
-        if equal(b, pos, value, key, name) {
+        let value = end_of(b, at);
+        if equal(b, at, value, key, name) {
             found = Place::At(value);
         }
-        pos = skip(b, value);
+        at = end_of(b, value);
         left -= 2;
     }
     found
 }
 
 // Whether the key from pos to `end` is equal.
-fn equal(b: &[u8], pos: usize, end: usize, key: Key, name: &[u8]) -> bool
-    requires { ⌜ OneTerm (now b) pos × Ends (now b) pos end ⌝ }
-    ensures { λ r. ⌜ Judges (now (b .entry)) pos (keyOf key (now (name .entry))) r ⌝ }
+fn equal(b: &[u8], at: usize, end: usize, key: Key, name: &[u8]) -> bool
+    requires { ⌜ OneTerm (now b) at × Ends (now b) at end ⌝ }
+    ensures { λ r. ⌜ Judges (now (b .entry)) at (keyOf key (now (name .entry))) r ⌝ }
 {
-    let tag = b[pos];
+    let tag = b[at];
     match key {
         Key::Name => match tag {
-            119 => same(b, pos + 2, end, name),
-            100 | 118 => same(b, pos + 3, end, name),
+            119 => same(b, at + 2, end, name),
+            100 | 118 => same(b, at + 3, end, name),
             _ => false,
         },
         Key::Number(z) => match tag {
-            97 => b[pos + 1] as i64 == z,
-            98 => match fields::be_i32(b, pos + 1) {
+            97 => b[at + 1] as i64 == z,
+            98 => match fields::be_i32(b, at + 1) {
                 Integer::Is(y) => y == z,
                 Integer::Eof => false,
             },
@@ -122,24 +123,36 @@ fn same(b: &[u8], from: usize, end: usize, name: &[u8]) -> bool
     true
 }
 
-// The end of the term at `start`, which is known to be one. `owed` terms from pos on are still to be passed: a term's place among them is
+// The end of the term at `start`, which is known to be one: most keys and values have no children.
+fn end_of(b: &[u8], start: usize) -> usize
+    requires { ⌜ OneTerm (now b) start ⌝ }
+    ensures { λ r. ⌜ Ends (now (b .entry)) start r ⌝ }
+{
+    let s = layouts::shape_at(b, start);
+    if s.kids == 0 {
+        return s.from;
+    }
+    skip(b, start)
+}
+
+// The same of any term. `owed` terms from pos on are still to be passed: a term's place among them is
 // taken by its children. Bytes behind children stand only behind one atom, which is passed with them.
 fn skip(b: &[u8], start: usize) -> usize
     requires { ⌜ OneTerm (now b) start ⌝ }
     ensures { λ r. ⌜ Ends (now (b .entry)) start r ⌝ }
 {
-    let mut pos = start;
+    let mut at = start;
     let mut owed: usize = 1;
     while 0 < owed {
-        let s = layouts::shape_at(b, pos);
-        if s.more != 0 {
+        let s = layouts::shape_at(b, at);
+        if s.back != 0 {
             let atom = layouts::shape_at(b, s.from);
-            pos = atom.from + s.more;
+            at = atom.from + s.back;
             owed -= 1;
         } else {
-            pos = s.from;
+            at = s.from;
             owed = owed - 1 + s.kids;
         }
     }
-    pos
+    at
 }

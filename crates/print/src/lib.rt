@@ -5,8 +5,8 @@
 // as it has. What is printed is held against stored output by the programs' tests.
 use libc::STDERR_FILENO;
 use libc::STDOUT_FILENO;
-use terms::Kind;
-use terms::Segment;
+use reading::Kind;
+use reading::Segment;
 ghost use Prim.Native.Nat.{_≤_, _+_};
 ghost use lib.ListN.{length};
 
@@ -107,8 +107,8 @@ fn letter(digit: u8) -> u8
 }
 
 // A path's first `len` segments, joined by /. It holds sixty-four.
-pub fn path(out: &mut [u8], at: usize, segments: [Segment; 64], len: usize) -> usize {
-    let n = least(len, 64);
+pub fn path(out: &mut [u8], at: usize, segments: [Segment; numbers::NESTING], len: usize) -> usize {
+    let n = least(len, numbers::NESTING);
     let mut put = at;
     let mut i = 0;
     while i < n {

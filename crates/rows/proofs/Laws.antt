@@ -4,18 +4,22 @@ use native.Mathlib.Omega.{arith}
 use mathlib.Core.Path.{_≡_, refl, ap, sym, _∙_}
 use mathlib.Core.List.{List}
 use mathlib.Core.Bool.{Bool, true, false, cond}
-use borrow.Author.Tests.{le-leb, lt-leb, eq-eqb, ne-eqb}
+use borrow.Author.Tests.{le-leb, lt-leb, leb-true, leb-false, eq-eqb, ne-eqb}
 use lib.Dec.{eqb, leb}
 use lib.ListN.{length, take, drop}
 use Rattle.fields.specs.Field.{holds, fieldAt}
 use Rattle.fields.specs.declared.Field.the-variants as field
-use Rattle.fields.proofs.Laws.{there}
-use Rattle.utf8.specs.Unicode.{goodBytes}
+use Rattle.fields.specs.declared.Field.{Field}
+use Rattle.fields.proofs.Laws.{there, is-whole, then-is, then-eof, by-then}
+use Rattle.utf8.specs.Inner.Find.{goodBytes}
 use Rattle.literal.specs.Trim.{trimmed}
-use Rattle.literal.specs.Parse.{isLiteral}
+use Rattle.literal.specs.Inner.Parse.{isLiteral}
 use Rattle.rows.specs.Layout.{numberText}
-use Rattle.rows.specs.Numbers as number
-use Rattle.rows.specs.Row.{no, andThen, bytes, sized, name, capped}
+use Rattle.numbers.specs.Numbers as number
+use Rattle.numbers.specs.Numbers.{among, Listed}
+use Rattle.numbers.proofs.Laws.{by-test}
+use Rattle.rows.specs.Row.{no, bytes, name, countThen, countAt}
+use Rattle.rows.specs.declared.Counted.the-variants as count
 use Rattle.rows.specs.declared.Row.{Row}
 use Rattle.rows.specs.declared.Row.the-variants.{To, No}
 
@@ -40,22 +44,60 @@ module _ (b : List ℕ) (n p : ℕ) where
   unfolding name bytes
   name-gone h = rw h
 
-module _ (k : ℕ) (b : List ℕ) (f : ℕ → ℕ → Row) (p : ℕ) where
-  pub sized-is : {n : ℕ} → fieldAt k b p ≡ field.Is n → sized k b f p ≡ f n (p + k)
-  unfolding sized
-  sized-is e = rw e
+-- a count: there and within its cap, or refused
+module _ (most : ℕ) (b : List ℕ) (p : ℕ) where
+  pub count-in : {n : ℕ} → fieldAt 4 b p ≡ field.Is n → n ≤ most → countAt most b p ≡ count.Is n
+  unfolding countAt countThen
+  count-in {n} e h = then-is 4 b p _ _ e ∙ rw (le-leb n most h)
 
-  pub sized-eof : fieldAt k b p ≡ field.Eof → sized k b f p ≡ no number.Eof
-  unfolding sized
-  sized-eof e = rw e
+  pub count-over : {n : ℕ} → fieldAt 4 b p ≡ field.Is n → most < n → countAt most b p ≡ count.No number.Size
+  unfolding countAt countThen
+  count-over {n} e h = then-is 4 b p _ _ e ∙ rw (lt-leb n most h)
 
-pub capped-in : (cap n : ℕ) (r : Row) → n ≤ cap → capped cap n r ≡ r
-unfolding capped
-capped-in cap n r h = rw (le-leb n cap h)
+  pub count-eof : fieldAt 4 b p ≡ field.Eof → countAt most b p ≡ count.No number.Eof
+  unfolding countAt countThen
+  count-eof e = then-eof 4 b p _ _ e
 
-pub capped-out : (cap n : ℕ) (r : Row) → cap < n → capped cap n r ≡ no number.Size
-unfolding capped
-capped-out cap n r h = rw (lt-leb n cap h)
+  -- by which of these it is
+  pub by-count : {A : Type 0} → ((n : ℕ) → fieldAt 4 b p ≡ field.Is n → n ≤ most → A) → ((n : ℕ) → fieldAt 4 b p ≡ field.Is n → most < n → A) → (fieldAt 4 b p ≡ field.Eof → A) → A
+  by-count {A} within over eof = go (fieldAt 4 b p) refl
+    where
+      go : (x : Field) → fieldAt 4 b p ≡ x → A
+      go (field.Is n) e = test (leb n most) refl
+        where
+          test : (t : Bool) → leb n most ≡ t → A
+          test true h = within n e (leb-true n most h)
+          test false h = over n e (leb-false n most h)
+      go field.Eof e = eof e
+
+  -- what a count that is there says, and what one that is refused
+  pub count-is : {n : ℕ} → countAt most b p ≡ count.Is n → (fieldAt 4 b p ≡ field.Is n) × (n ≤ most)
+  count-is {n} h =
+      by-count
+      (λ m e k. let f : count.Is m ≡ count.Is n = sym (count-in e k) ∙ h in let g : m ≡ n = cc in (rw g at e, omega arith))
+      (λ m e k. let f : count.No number.Size ≡ count.Is n = sym (count-over e k) ∙ h in absurd (let z : _≡_ {A = ℕ} 0 1 = cc in omega arith))
+      (λ e. let f : count.No number.Eof ≡ count.Is n = sym (count-eof e) ∙ h in absurd (let z : _≡_ {A = ℕ} 0 1 = cc in omega arith))
+
+  pub count-there : {n : ℕ} → countAt most b p ≡ count.Is n → p + 4 ≤ length b
+  count-there h = is-whole 4 b p (count-is h .0) .0
+
+  module _ {A : Type 0} (refused : ℕ → A) (f : ℕ → ℕ → A) where
+    pub counted-is : {n : ℕ} → countAt most b p ≡ count.Is n → countThen refused most b f p ≡ f n (p + 4)
+    unfolding countThen
+    counted-is {n} h = let (e, k) = count-is h in then-is 4 b p _ _ e ∙ rw (le-leb n most k)
+
+    pub counted-no : {x : ℕ} → countAt most b p ≡ count.No x → countThen refused most b f p ≡ refused x
+    unfolding countThen
+    counted-no {x} h =
+        by-count
+        (λ m e k. let f : count.Is m ≡ count.No x = sym (count-in e k) ∙ h in absurd (let z : _≡_ {A = ℕ} 0 1 = cc in omega arith))
+        (λ m e k. let f : count.No number.Size ≡ count.No x = sym (count-over e k) ∙ h in let g : number.Size ≡ x = cc in then-is 4 b p _ _ e ∙ rw (lt-leb m most k, ← g))
+        (λ e. let f : count.No number.Eof ≡ count.No x = sym (count-eof e) ∙ h in let g : number.Eof ≡ x = cc in then-eof 4 b p _ _ e ∙ rw (← g))
+
+    -- what its refusals and what comes behind it have, it has
+    pub by-counted : (P : A → Type 0) → ((n : ℕ) → Listed n → P (refused n)) → ((n : ℕ) → P (f n (p + 4))) → P (countThen refused most b f p)
+    unfolding countThen among
+    by-counted P h m = by-then 4 b p _ _ P (h number.Eof refl) (λ n. by-test P (leb n most) _ _ (m n) (h number.Size refl))
 
 -- a part that is written by its ends
 pub part : (l : List ℕ) (p n e : ℕ) → e ≡ p + n → take (e - p) l ≡ take n l

@@ -5,10 +5,10 @@ use mathlib.Core.Bool.{Bool, cond, _&&_, _||_}
 use lib.Dec.{eqb, leb, ltb}
 use lib.ListN.{getD, take, drop}
 use Rattle.literal.specs.Trim.{trimmed}
-use Rattle.literal.specs.Parse.{isLiteral}
-use Rattle.rows.specs.Numbers as number
-use Rattle.rows.specs.Caps as cap
-use Rattle.rows.specs.Row.{no, andThen, bytes, sized, name, capped}
+use Rattle.literal.specs.Inner.Parse.{isLiteral}
+use Rattle.numbers.specs.Numbers as number
+use Rattle.numbers.specs.Caps as cap
+use Rattle.rows.specs.Row.{no, andThen, bytes, sized, name, counted}
 use Rattle.rows.specs.declared.Row.{Row}
 use Rattle.rows.specs.declared.Row.the-variants.{To}
 
@@ -26,19 +26,19 @@ bitsByte n k = cond (eqb n 0) (eqb k 8) (leb 1 k && leb k 8)
 unfoldable pub bitsThen : List ℕ → ℕ → ℕ → Row
 bitsThen b n p = sized 1 b (λ k q. cond (bitsByte n k) (bytes b n q) (no number.Bits)) p
 
-unfoldable pub bitString : List ℕ → ℕ → ℕ → Row
-bitString b n p = capped cap.length n (bitsThen b n p)
+unfoldable pub bitString : List ℕ → ℕ → Row
+bitString b p = counted cap.binary b (bitsThen b) p
 
 -- "length of 4 bytes, bytes"
 unfoldable pub binary : List ℕ → ℕ → Row
-binary b p = sized 4 b (λ n q. capped cap.length n (bytes b n q)) p
+binary b p = counted cap.binary b (bytes b) p
 
 -- "sign byte (nonzero is negative), n digit bytes, least first"
 unfoldable pub digits : List ℕ → ℕ → ℕ → Row
 digits b n p = andThen (bytes b 1 p) (bytes b n)
 
-unfoldable pub leaf : List ℕ → ℕ → ℕ → Row
-leaf b tag p =
+unfoldable pub rowAt : List ℕ → ℕ → ℕ → Row
+rowAt b tag p =
     cond (eqb tag 97) (bytes b 1 p)
     (cond (eqb tag 98) (bytes b 4 p)
     (cond (eqb tag 99) (numberText b p)
@@ -48,7 +48,7 @@ leaf b tag p =
     (cond (eqb tag 106) (To p)
     (cond (eqb tag 107) (sized 2 b (bytes b) p)
     (cond (eqb tag 109) (binary b p)
-    (cond (eqb tag 77) (sized 4 b (bitString b) p)
+    (cond (eqb tag 77) (bitString b p)
     (cond (eqb tag 110) (sized 1 b (digits b) p)
     (cond (eqb tag 111) (sized 4 b (digits b) p)
     (no number.Tag))))))))))))

@@ -1,4 +1,2 @@
-pub mod Numbers
-pub mod Caps
 pub mod Row
 pub mod Layout

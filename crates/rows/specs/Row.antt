@@ -1,14 +1,15 @@
 -- What reading a run of fields answers: the place behind them, or a refusal.
 use Prim.Native.Nat.{ℕ, _+_}
 use mathlib.Core.List.{List}
-use mathlib.Core.Bool.{Bool, cond}
+use mathlib.Core.Bool.{cond}
 use lib.Dec.{eqb, leb}
 use lib.ListN.{take, drop}
-use Rattle.fields.specs.Field.{holds, fieldAt}
-use Rattle.fields.specs.declared.Field.{Field}
-use Rattle.fields.specs.declared.Field.the-variants as field
-use Rattle.utf8.specs.Unicode.{goodBytes}
-use Rattle.rows.specs.Numbers.{Eof, Text, Size}
+use Rattle.fields.specs.Field.{holds, numberThen}
+use Rattle.utf8.specs.Inner.Find.{goodBytes}
+use Rattle.numbers.specs.Numbers.{Eof, Text, Size}
+use Rattle.numbers.specs.Numbers as number
+use Rattle.rows.specs.declared.Counted.{Counted}
+use Rattle.rows.specs.declared.Counted.the-variants as count
 use Rattle.rows.specs.declared.Row.{Row}
 use Rattle.rows.specs.declared.Row.the-variants.{To, No}
 
@@ -26,17 +27,30 @@ unfoldable pub bytes : List ℕ → ℕ → ℕ → Row
 bytes b n p = cond (holds n b p) (To (p + n)) (no Eof)
 
 -- a number of k bytes, and what it says of what comes behind it
-unfoldable pub sized : ℕ → List ℕ → (ℕ → ℕ → Row) → ℕ → Row
-sized k b f p = go (fieldAt k b p)
-  where
-    go : Field → Row
-    go (field.Is n) = f n (p + k)
-    go field.Eof = no Eof
+abbrev pub sized : ℕ → List ℕ → (ℕ → ℕ → Row) → ℕ → Row
+sized k b f p = numberThen (no Eof) k b f p
 
 -- n bytes of text
 unfoldable pub name : List ℕ → ℕ → ℕ → Row
 name b n p = andThen (bytes b n p) (λ e. cond (eqb (goodBytes (take n (drop p b))) n) (To e) (no Text))
 
--- "over a cap"
-unfoldable pub capped : ℕ → ℕ → Row → Row
-capped cap n r = cond (leb n cap) r (no Size)
+-- "over a cap": a count of 4 bytes that may be `most` at most, and what is said of it and of the place behind it; or what is said of its
+-- refusal, by the number
+unfoldable pub countThen : {A : Type 0} → (ℕ → A) → ℕ → List ℕ → (ℕ → ℕ → A) → ℕ → A
+countThen refused most b f p = numberThen (refused Eof) 4 b (λ n q. cond (leb n most) (f n q) (refused Size)) p
+
+-- the count alone
+unfoldable pub countAt : ℕ → List ℕ → ℕ → Counted
+countAt most b p = countThen count.No most b (λ n q. count.Is n) p
+
+abbrev pub counted : ℕ → List ℕ → (ℕ → ℕ → Row) → ℕ → Row
+counted most b f p = countThen no most b f p
+
+-- what each comes to
+abbrev pub rowOutcome : Row → number.Outcome
+rowOutcome (To p) = number.done
+rowOutcome (No n x) = number.refused n
+
+abbrev pub countedOutcome : Counted → number.Outcome
+countedOutcome (count.Is n) = number.done
+countedOutcome (count.No n) = number.refused n

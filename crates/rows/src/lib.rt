@@ -7,189 +7,165 @@ ghost use mathlib.Core.Path.{_≡_};
 ghost use Rattle.rows.specs.Row as row;
 ghost use Rattle.rows.specs.Layout as layout;
 
-// The numbers the jig shows but Done, which is 0: one place for the crates above too.
-pub const EOF: u64 = 1;
-
-pub const TAG: u64 = 2;
-
-pub const TEXT: u64 = 3;
-
-pub const LITERAL: u64 = 4;
-
-pub const BITS: u64 = 5;
-
-pub const SIZE: u64 = 6;
-
-pub const TRAILING: u64 = 7;
-
-pub const DEEP: u64 = 8;
-
-pub const ROOM: u64 = 9;
-
-pub const LONG: u64 = 10;
-
-pub const NAME: u64 = 11;
-
-pub const VERSION: u64 = 12;
-
-pub const KIND: u64 = 13;
-
-pub const LIMIT: u64 = 14;
-
-pub const STORE: u64 = 15;
-
-pub const ABSENT: u64 = 16;
-
-// The cap on the length of a binary and of a bit string.
-const MAX_BINARY_SIZE: u64 = 100000000;
-
 // The place behind what was read, or a refusal: its number and its extra.
 pub enum Row {
     To(usize),
     No(u64, u64),
 }
 
+// A count within its cap, or the number of its refusal.
+pub enum Counted {
+    Is(u64),
+    No(u64),
+}
+
 // A row without children, by its tag, from the place behind the tag on. Any other tag is refused.
-pub fn leaf(b: &[u8], tag: u8, p: usize) -> Row
-    ensures { λ r. ⌜ r ≡ layout.leaf (now (b .entry)) tag p ⌝ }
+pub fn row_at(b: &[u8], tag: u8, at: usize) -> Row
+    ensures { λ r. ⌜ r ≡ layout.rowAt (now (b .entry)) tag at ⌝ }
 {
     match tag {
-        97 => bytes(b, 1, p),
-        98 => bytes(b, 4, p),
-        99 => number_text(b, p),
-        70 => bytes(b, 8, p),
-        100 => name2(b, p),
-        118 => name2(b, p),
-        119 => name1(b, p),
-        106 => Row::To(p),
-        107 => string(b, p),
-        109 => binary(b, p),
-        77 => bit_string(b, p),
-        110 => small_big(b, p),
-        111 => large_big(b, p),
-        _ => Row::No(TAG, 0),
+        97 => bytes(b, 1, at),
+        98 => bytes(b, 4, at),
+        99 => number_text(b, at),
+        70 => bytes(b, 8, at),
+        100 => name2(b, at),
+        118 => name2(b, at),
+        119 => name1(b, at),
+        106 => Row::To(at),
+        107 => string(b, at),
+        109 => binary(b, at),
+        77 => bit_string(b, at),
+        110 => small_big(b, at),
+        111 => large_big(b, at),
+        _ => Row::No(numbers::TAG, 0),
     }
 }
 
-// n bytes, whatever they are.
-fn bytes(b: &[u8], n: usize, p: usize) -> Row
-    ensures { λ r. ⌜ r ≡ row.bytes (now (b .entry)) n p ⌝ }
+// A count of four bytes, which may be `most` at most: the count, or the number of its refusal.
+pub fn count(b: &[u8], most: u64, at: usize) -> Counted
+    ensures { λ r. ⌜ r ≡ row.countAt most (now (b .entry)) at ⌝ }
 {
-    if fields::has(b, p, n) {
-        Row::To(p + n)
-    } else {
-        Row::No(EOF, 0)
+    let f = fields::be_u32(b, at);
+    match f {
+        Field::Is(n) => {
+            if most < n {
+                return Counted::No(numbers::SIZE);
+            }
+            Counted::Is(n)
+        }
+        Field::Eof => Counted::No(numbers::EOF),
     }
 }
 
 // n bytes of text.
-fn name(b: &[u8], n: usize, p: usize) -> Row
-    ensures { λ r. ⌜ r ≡ row.name (now (b .entry)) n p ⌝ }
+pub fn name(b: &[u8], n: usize, at: usize) -> Row
+    ensures { λ r. ⌜ r ≡ row.name (now (b .entry)) n at ⌝ }
 {
-    if fields::has(b, p, n) {
-        let e = p + n;
-        if utf8::good(&b[p..e]) == n {
+    if fields::has(b, at, n) {
+        let e = at + n;
+        if utf8::good(&b[at..e]) == n {
             return Row::To(e);
         }
-        return Row::No(TEXT, 0);
+        return Row::No(numbers::TEXT, 0);
     }
-    Row::No(EOF, 0)
+    Row::No(numbers::EOF, 0)
+}
+
+// n bytes, whatever they are.
+fn bytes(b: &[u8], n: usize, at: usize) -> Row
+    ensures { λ r. ⌜ r ≡ row.bytes (now (b .entry)) n at ⌝ }
+{
+    if fields::has(b, at, n) {
+        Row::To(at + n)
+    } else {
+        Row::No(numbers::EOF, 0)
+    }
 }
 
 // A name whose length has two bytes, and one whose length has one.
-fn name2(b: &[u8], p: usize) -> Row
-    ensures { λ r. ⌜ r ≡ row.sized 2 (now (b .entry)) (row.name (now (b .entry))) p ⌝ }
+fn name2(b: &[u8], at: usize) -> Row
+    ensures { λ r. ⌜ r ≡ row.sized 2 (now (b .entry)) (row.name (now (b .entry))) at ⌝ }
 {
-    let f = fields::be_u16(b, p);
+    let f = fields::be_u16(b, at);
     match f {
-        Field::Is(n) => name(b, n as usize, p + 2),
-        Field::Eof => Row::No(EOF, 0),
+        Field::Is(n) => name(b, n as usize, at + 2),
+        Field::Eof => Row::No(numbers::EOF, 0),
     }
 }
 
-fn name1(b: &[u8], p: usize) -> Row
-    ensures { λ r. ⌜ r ≡ row.sized 1 (now (b .entry)) (row.name (now (b .entry))) p ⌝ }
+fn name1(b: &[u8], at: usize) -> Row
+    ensures { λ r. ⌜ r ≡ row.sized 1 (now (b .entry)) (row.name (now (b .entry))) at ⌝ }
 {
-    let f = fields::be_u8(b, p);
+    let f = fields::be_u8(b, at);
     match f {
-        Field::Is(n) => name(b, n as usize, p + 1),
-        Field::Eof => Row::No(EOF, 0),
+        Field::Is(n) => name(b, n as usize, at + 1),
+        Field::Eof => Row::No(numbers::EOF, 0),
     }
 }
 
 // Tag 99: 31 bytes, judged as text and then as a number text.
-fn number_text(b: &[u8], p: usize) -> Row
-    ensures { λ r. ⌜ r ≡ layout.numberText (now (b .entry)) p ⌝ }
+fn number_text(b: &[u8], at: usize) -> Row
+    ensures { λ r. ⌜ r ≡ layout.numberText (now (b .entry)) at ⌝ }
 {
-    let f = name(b, 31, p);
+    let f = name(b, 31, at);
     match f {
         Row::To(e) => {
-            let text = &b[p..e];
+            let text = &b[at..e];
             let n = literal::trim(text);
             if literal::literal(&text[..n]) {
                 return Row::To(e);
             }
-            Row::No(LITERAL, 0)
+            Row::No(numbers::LITERAL, 0)
         }
         Row::No(n, x) => Row::No(n, x),
     }
 }
 
 // Tag 107: a length of two bytes, and bytes.
-fn string(b: &[u8], p: usize) -> Row
-    ensures { λ r. ⌜ r ≡ row.sized 2 (now (b .entry)) (row.bytes (now (b .entry))) p ⌝ }
+fn string(b: &[u8], at: usize) -> Row
+    ensures { λ r. ⌜ r ≡ row.sized 2 (now (b .entry)) (row.bytes (now (b .entry))) at ⌝ }
 {
-    let f = fields::be_u16(b, p);
+    let f = fields::be_u16(b, at);
     match f {
-        Field::Is(n) => bytes(b, n as usize, p + 2),
-        Field::Eof => Row::No(EOF, 0),
+        Field::Is(n) => bytes(b, n as usize, at + 2),
+        Field::Eof => Row::No(numbers::EOF, 0),
     }
 }
 
 // Tag 109: a length of four bytes within the cap, and bytes.
-fn binary(b: &[u8], p: usize) -> Row
-    ensures { λ r. ⌜ r ≡ layout.binary (now (b .entry)) p ⌝ }
+fn binary(b: &[u8], at: usize) -> Row
+    ensures { λ r. ⌜ r ≡ layout.binary (now (b .entry)) at ⌝ }
 {
-    let f = fields::be_u32(b, p);
-    match f {
-        Field::Is(n) => {
-            if MAX_BINARY_SIZE < n {
-                return Row::No(SIZE, 0);
-            }
-            bytes(b, n as usize, p + 4)
-        }
-        Field::Eof => Row::No(EOF, 0),
+    let size = count(b, numbers::BINARY, at);
+    match size {
+        Counted::Is(n) => bytes(b, n as usize, at + 4),
+        Counted::No(n) => Row::No(n, 0),
     }
 }
 
 // Tag 77: a length of four bytes within the cap, the bits byte, and bytes.
-fn bit_string(b: &[u8], p: usize) -> Row
-    ensures { λ r. ⌜ r ≡ row.sized 4 (now (b .entry)) (layout.bitString (now (b .entry))) p ⌝ }
+fn bit_string(b: &[u8], at: usize) -> Row
+    ensures { λ r. ⌜ r ≡ layout.bitString (now (b .entry)) at ⌝ }
 {
-    let f = fields::be_u32(b, p);
-    match f {
-        Field::Is(n) => {
-            if MAX_BINARY_SIZE < n {
-                return Row::No(SIZE, 0);
-            }
-            bits(b, n as usize, p + 4)
-        }
-        Field::Eof => Row::No(EOF, 0),
+    let length = count(b, numbers::BINARY, at);
+    match length {
+        Counted::Is(n) => bits(b, n as usize, at + 4),
+        Counted::No(n) => Row::No(n, 0),
     }
 }
 
-fn bits(b: &[u8], n: usize, p: usize) -> Row
-    ensures { λ r. ⌜ r ≡ layout.bitsThen (now (b .entry)) n p ⌝ }
+fn bits(b: &[u8], n: usize, at: usize) -> Row
+    ensures { λ r. ⌜ r ≡ layout.bitsThen (now (b .entry)) n at ⌝ }
 {
-    let f = fields::be_u8(b, p);
+    let f = fields::be_u8(b, at);
     match f {
         Field::Is(k) => {
             if bits_byte(n, k) {
-                return bytes(b, n, p + 1);
+                return bytes(b, n, at + 1);
             }
-            Row::No(BITS, 0)
+            Row::No(numbers::BITS, 0)
         }
-        Field::Eof => Row::No(EOF, 0),
+        Field::Eof => Row::No(numbers::EOF, 0),
     }
 }
 
@@ -206,31 +182,31 @@ fn bits_byte(n: usize, k: u64) -> bool
 }
 
 // Tags 110 and 111: n, the sign byte, and n digit bytes.
-fn small_big(b: &[u8], p: usize) -> Row
-    ensures { λ r. ⌜ r ≡ row.sized 1 (now (b .entry)) (layout.digits (now (b .entry))) p ⌝ }
+fn small_big(b: &[u8], at: usize) -> Row
+    ensures { λ r. ⌜ r ≡ row.sized 1 (now (b .entry)) (layout.digits (now (b .entry))) at ⌝ }
 {
-    let f = fields::be_u8(b, p);
+    let f = fields::be_u8(b, at);
     match f {
-        Field::Is(n) => digits(b, n as usize, p + 1),
-        Field::Eof => Row::No(EOF, 0),
+        Field::Is(n) => digits(b, n as usize, at + 1),
+        Field::Eof => Row::No(numbers::EOF, 0),
     }
 }
 
-fn large_big(b: &[u8], p: usize) -> Row
-    ensures { λ r. ⌜ r ≡ row.sized 4 (now (b .entry)) (layout.digits (now (b .entry))) p ⌝ }
+fn large_big(b: &[u8], at: usize) -> Row
+    ensures { λ r. ⌜ r ≡ row.sized 4 (now (b .entry)) (layout.digits (now (b .entry))) at ⌝ }
 {
-    let f = fields::be_u32(b, p);
+    let f = fields::be_u32(b, at);
     match f {
-        Field::Is(n) => digits(b, n as usize, p + 4),
-        Field::Eof => Row::No(EOF, 0),
+        Field::Is(n) => digits(b, n as usize, at + 4),
+        Field::Eof => Row::No(numbers::EOF, 0),
     }
 }
 
-fn digits(b: &[u8], n: usize, p: usize) -> Row
-    ensures { λ r. ⌜ r ≡ layout.digits (now (b .entry)) n p ⌝ }
+fn digits(b: &[u8], n: usize, at: usize) -> Row
+    ensures { λ r. ⌜ r ≡ layout.digits (now (b .entry)) n at ⌝ }
 {
-    if b.len() <= p {
-        return Row::No(EOF, 0);
+    if b.len() <= at {
+        return Row::No(numbers::EOF, 0);
     }
-    bytes(b, n, p + 1)
+    bytes(b, n, at + 1)
 }

@@ -3,16 +3,14 @@
 // At most 65,536 bytes are read, with a nesting limit of 64 and room for 3,276 cells. Longer input is answered as number 10. Input that
 // can't be read to its end has no answer: that is said on standard error.
 use libc::STDERR_FILENO;
-use terms::Answer;
+use reading::Answer;
+use reading::Cause;
 ghost use Prim.Native.Nat.{_≤_, _*_, _+_};
 ghost use lib.ListN.{length};
+ghost use Rattle.tape.specs.Cells.{cellWords};
 
-// The most bytes of a record, the nesting limit, and the words of a cell.
+// The most bytes of a record.
 const RECORD: usize = 65536;
-
-const LIMIT: usize = 64;
-
-const CELL: usize = 5;
 
 // Instead of a number of bytes: reading failed.
 const FAILED: usize = usize::MAX;
@@ -27,7 +25,7 @@ fn main() {
         return;
     }
     if RECORD < n {
-        refused(terms::refusal(rows::LONG, 0, 0, 0, 0), &mut out);
+        refused(reading::refusal(Cause::Long, 0, 0, 0, 0), &mut out);
         return;
     }
     record(&input[..n], &mut tape, &mut out);
@@ -51,8 +49,8 @@ fn fill(buf: &mut [u8]) -> usize {
 }
 
 fn record(b: &[u8], tape: &mut [u32], out: &mut [u8]) {
-    let a = tape::read(b, LIMIT, tape);
-    if a.number != 0 {
+    let a = tape::read(b, numbers::NESTING, tape);
+    if a.number != numbers::DONE {
         refused(a, out);
         return;
     }
@@ -61,9 +59,9 @@ fn record(b: &[u8], tape: &mut [u32], out: &mut [u8]) {
 
 // An accepted record: its counts, and a line for each cell.
 fn accepted(begun: usize, deepest: usize, tape: &[u32], out: &mut [u8])
-    requires { ⌜ 5 * begun ≤ length (now tape) ⌝ }
+    requires { ⌜ cellWords * begun ≤ length (now tape) ⌝ }
 {
-    let mut put = counts(0, begun, deepest, out);
+    let mut put = counts(numbers::DONE, begun, deepest, out);
     put = line(out, put, b"cells=", begun as u64);
     let mut i = 0;
     while i < begun {
@@ -74,9 +72,9 @@ fn accepted(begun: usize, deepest: usize, tape: &[u32], out: &mut [u8])
 }
 
 fn cell(i: usize, tape: &[u32], out: &mut [u8], at: usize) -> usize
-    requires { ⌜ 5 * i + 5 ≤ length (now tape) ⌝ }
+    requires { ⌜ cellWords * i + cellWords ≤ length (now tape) ⌝ }
 {
-    let w = CELL * i;
+    let w = tape::CELL * i;
     let put = print::field(out, at, b"cell=", i as u64);
     let spanned = span(w, tape, out, put);
     kin(w + 3, tape, out, spanned)

@@ -8,20 +8,29 @@ use mathlib.Core.List.{List, [], _∷_}
 use mathlib.Core.Bool.{Bool, true, false}
 use Rattle.tape.proofs.Accepts as tape
 use Rattle.lookup.proofs.Meaning.{one-answer}
-use Rattle.jig.proofs.Told.{found-once, left-once}
+use Rattle.jig.proofs.Told.{told-once, read-once}
 use Rattle.fields.proofs.has.Reads as fields-has
 use Rattle.fields.proofs.be_u8.Reads as fields-be-u8
 use Rattle.fields.proofs.be_u16.Reads as fields-be-u16
 use Rattle.fields.proofs.be_u32.Reads as fields-be-u32
 use Rattle.fields.proofs.be_u64.Reads as fields-be-u64
 use Rattle.fields.proofs.be_i32.Reads as fields-be-i32
+use Rattle.fields.proofs.u8_at.Reads as fields-u8-at
+use Rattle.fields.proofs.u16_at.Reads as fields-u16-at
+use Rattle.fields.proofs.u32_at.Reads as fields-u32-at
+use Rattle.fields.proofs.u64_at.Reads as fields-u64-at
+use Rattle.fields.proofs.i32_at.Reads as fields-i32-at
 use Rattle.utf8.proofs.good.Reads as utf8-good
 use Rattle.utf8.proofs.ascii.Reads as utf8-ascii
 use Rattle.literal.proofs.trim.Reads as literal-trim
 use Rattle.literal.proofs.literal.Reads as literal-literal
-use Rattle.rows.proofs.leaf.Reads as rows-leaf
+use Rattle.rows.proofs.row_at.Reads as rows-row-at
+use Rattle.rows.proofs.count.Reads as rows-count
+use Rattle.rows.proofs.name.Reads as rows-name
+use Rattle.reading.proofs.kind_number.Reads as reading-kind-number
+use Rattle.reading.proofs.refusal.Reads as reading-refusal
+use Rattle.reading.proofs.starts.Reads as reading-starts
 use Rattle.terms.proofs.read.Reads as terms-read
-use Rattle.terms.proofs.refusal.Reads as terms-refusal
 use Rattle.heads.proofs.head.Reads as heads-head
 use Rattle.heads.proofs.part.Reads as heads-part
 use Rattle.layouts.proofs.shape_at.Reads as layouts-shape-at
@@ -81,13 +90,22 @@ pub record Determined : Type 0 where
   pub fields-be-u32 : Answer fields-be-u32.Post
   pub fields-be-u64 : Answer fields-be-u64.Post
   pub fields-be-i32 : Answer fields-be-i32.Post
+  pub fields-u8-at : Answer fields-u8-at.Post
+  pub fields-u16-at : Answer fields-u16-at.Post
+  pub fields-u32-at : Answer fields-u32-at.Post
+  pub fields-u64-at : Answer fields-u64-at.Post
+  pub fields-i32-at : Answer fields-i32-at.Post
   pub utf8-good : Answer utf8-good.Post
   pub utf8-ascii : Answer utf8-ascii.Post
   pub literal-trim : Answer literal-trim.Post
   pub literal-literal : Answer literal-literal.Post
-  pub rows-leaf : Answer rows-leaf.Post
+  pub rows-row-at : Answer rows-row-at.Post
+  pub rows-count : Answer rows-count.Post
+  pub rows-name : Answer rows-name.Post
+  pub reading-kind-number : Answer reading-kind-number.Post
+  pub reading-refusal : Answer reading-refusal.Post
+  pub reading-starts : Answer reading-starts.Post
   pub terms-read : Answer terms-read.Post
-  pub terms-refusal : Answer terms-refusal.Post
   pub heads-head : Answer heads-head.Post
   pub heads-part : Part heads-part.Post (λ κ r. r .now)
   pub layouts-shape-at : Answer layouts-shape-at.Post
@@ -143,19 +161,28 @@ determined = record {
   fields-be-u32 = λ κ a x y s t p q. equal p q;
   fields-be-u64 = λ κ a x y s t p q. equal p q;
   fields-be-i32 = λ κ a x y s t p q. equal p q;
+  fields-u8-at = λ κ a x y s t p q. equal (p .0) (q .0);
+  fields-u16-at = λ κ a x y s t p q. equal (p .0) (q .0);
+  fields-u32-at = λ κ a x y s t p q. equal (p .0) (q .0);
+  fields-u64-at = λ κ a x y s t p q. equal p q;
+  fields-i32-at = λ κ a x y s t p q. equal p q;
   utf8-good = λ κ a x y s t p q. equal p q;
   utf8-ascii = λ κ a x y s t p q. alike x y p q;
   literal-trim = λ κ a x y s t p q. equal p q;
   literal-literal = λ κ a x y s t p q. equal p q;
-  rows-leaf = λ κ a x y s t p q. equal p q;
+  rows-row-at = λ κ a x y s t p q. equal p q;
+  rows-count = λ κ a x y s t p q. equal p q;
+  rows-name = λ κ a x y s t p q. equal p q;
+  reading-kind-number = λ κ a x y s t p q. equal (p .0) (q .0);
+  reading-refusal = λ κ a x y s t p q. equal p q;
+  reading-starts = λ κ a x y s t p q. equal p q;
   terms-read = λ κ a x y s t p q. equal p q;
-  terms-refusal = λ κ a x y s t p q. equal p q;
   heads-head = λ κ a x y s t p q. equal p q;
   heads-part = λ κ a x y s t p q. equal p q;
   layouts-shape-at = λ κ a x y s t p q. equal p q;
   layouts-short-at = λ κ a x y s t p q. equal p q;
   layouts-inner-at = λ κ a x y s t p q. equal p q;
-  tape-read = λ κ a x y s t p q. tape.determined (record { answered = p .0; left = p .1 }) (record { answered = q .0; left = q .1 });
+  tape-read = λ κ a x y s t p q. tape.determined p q;
   lookup-find-name = λ κ a x y s t p q. one-answer p q;
   lookup-find-number = λ κ a x y s t p q. one-answer p q;
   cache-empty = λ κ a x y s t p q. equal p q;
@@ -165,10 +192,10 @@ determined = record {
   cache-header-read = λ κ a x y s t p q. (equal (p .0) (q .0), equal (p .1) (q .1));
   fragments-first = λ κ a x y s t p q. equal p q;
   fragments-next = λ κ a x y s t p q. equal p q;
-  jig-sill-read = λ κ a x y s t p q. (equal (p .0) (q .0), (equal (p .1 .0) (q .1 .0), left-once (a .1 .0) (p .0) (q .0) (p .1 .1) (q .1 .1)));
-  jig-sill-term = λ κ a x y s t p q. (equal (p .0) (q .0), equal (p .1) (q .1));
-  jig-sill-find-name = λ κ a x y s t p q. found-once p q;
-  jig-sill-find-number = λ κ a x y s t p q. found-once p q;
+  jig-sill-read = λ κ a x y s t p q. read-once p q;
+  jig-sill-term = λ κ a x y s t p q. told-once (λ _ _ h k. equal h k) p q;
+  jig-sill-find-name = λ κ a x y s t p q. told-once (λ _ _ h k. one-answer h k) p q;
+  jig-sill-find-number = λ κ a x y s t p q. told-once (λ _ _ h k. one-answer h k) p q;
   jig-sill-head = λ κ a x y s t p q. equal p q;
   jig-sill-part = λ κ a x y s t p q. equal p q;
   jig-sill-empty = λ κ a x y s t p q. equal p q;

@@ -1,27 +1,29 @@
 -- Document 01's records marked *, in its order, as one statement about what our calls promise: `Starred`, and its proof. Of a read, `room` is
 -- the number of words lent. Assumes nothing.
 use Prim.Native.Nat.{ℕ, _≤_}
-use mathlib.Core.Path.{_≡_, refl}
+use mathlib.Core.Path.{_≡_, refl, sym, _∙_}
 use mathlib.Core.List.{List, [], _∷_}
 use lib.IntN.{pos, negsuc}
 use native.Mathlib.Omega.{arith}
 use lib.ListN.{length}
 use borrow.Author.Tests.{le-ltb, eq-eqb}
 use Rattle.fields.specs.Be.{be, beAt, signed}
-use Rattle.fields.specs.Field.{holds}
+use Rattle.fields.specs.Field.{holds, fieldAt}
 use Rattle.rows.specs.Row as row
-use Rattle.rows.specs.Numbers as number
-use Rattle.rows.specs.Layout.{leaf, bitString, bitsThen, bitsByte}
-use Rattle.terms.specs.declared.Answer.{Answer}
-use Rattle.terms.specs.declared.Kind.the-variants as kind
-use Rattle.terms.specs.declared.Segment.{Segment}
-use Rattle.terms.specs.Answer.{refusal, answer, readAt}
-use Rattle.terms.proofs.Examples.{behind, segment}
-use Rattle.heads.specs.Head as head
-use Rattle.heads.specs.Head.{headAt}
+use Rattle.numbers.specs.Numbers as number
+use Rattle.rows.specs.Layout.{rowAt, bitString, bitsThen, bitsByte}
+use Rattle.reading.specs.declared.Answer.{Answer}
+use Rattle.reading.specs.declared.Kind.the-variants as kind
+use Rattle.reading.specs.declared.Segment.{Segment}
+use Rattle.reading.specs.Answer.{refusal, answer, starts, readAt}
+use Rattle.reading.proofs.Examples.{behind, segment}
+use Rattle.heads.specs.Inner.Head as head
+use Rattle.heads.specs.Inner.Head.{headAt}
 use Rattle.heads.specs.declared.Value.the-variants as value
 use Rattle.heads.proofs.Examples as heads
-use Rattle.tape.specs.Read.{judged, wholeFrom, readAll}
+use Rattle.agree.specs.Head.{headOf}
+use Rattle.agree.proofs.HeadIs.{head-is}
+use Rattle.tape.specs.Read.{ended, wholeFrom, recordIn, readAll}
 use Rattle.lookup.specs.Lookup.{Looked, number as integer}
 use Rattle.lookup.proofs.Examples.{last-wins}
 use Rattle.cache.specs.Names.{storeBytes, name, view}
@@ -59,8 +61,8 @@ pub record Starred : Type 0 where
   pub deep : Refused (131 ∷ 104 ∷ 1 ∷ 106 ∷ []) 1 number.Deep 3 0 1 1 (segment kind.Tuple 0 ∷ [])
   pub not-deep : Done (131 ∷ 104 ∷ 1 ∷ 106 ∷ []) 2 10
   -- "131 98 255 255 255 255 is -1; 98 128 0 0 0 is -2147483648."
-  pub less-one : headAt (131 ∷ 98 ∷ 255 ∷ 255 ∷ 255 ∷ 255 ∷ []) 1 ≡ record { tag = 98; value = value.Integer (negsuc 0) }
-  pub least : headAt (98 ∷ 128 ∷ 0 ∷ 0 ∷ 0 ∷ []) 0 ≡ record { tag = 98; value = value.Integer (negsuc 2147483647) }
+  pub less-one : headOf (131 ∷ 98 ∷ 255 ∷ 255 ∷ 255 ∷ 255 ∷ []) 1 ≡ record { tag = 98; value = value.Integer (negsuc 0) }
+  pub least : headOf (98 ∷ 128 ∷ 0 ∷ 0 ∷ 0 ∷ []) 0 ≡ record { tag = 98; value = value.Integer (negsuc 2147483647) }
   -- "131 77 0 0 0 0 8: Done; bits 7: Bits."
   pub no-bits : Done (131 ∷ 77 ∷ 0 ∷ 0 ∷ 0 ∷ 0 ∷ 8 ∷ []) 64 5
   pub seven-bits : Refused (131 ∷ 77 ∷ 0 ∷ 0 ∷ 0 ∷ 0 ∷ 7 ∷ []) 64 number.Bits 1 0 1 1 []
@@ -72,7 +74,7 @@ pub record Starred : Type 0 where
   pub long-header : headerIn (131 ∷ 68 ∷ 1 ∷ 9 ∷ 5 ∷ 1 ∷ 97 ∷ []) storeBytes .number ≡ number.Eof
 
 minus-one : headAt (131 ∷ 98 ∷ 255 ∷ 255 ∷ 255 ∷ 255 ∷ []) 1 ≡ record { tag = 98; value = value.Integer (negsuc 0) }
-unfolding headAt head.term head.leaf head.fixed leaf row.bytes holds beAt be signed
+unfolding headAt head.term head.rowValue head.fixed rowAt row.bytes holds fieldAt beAt be signed
 minus-one = refl
 
 one-name : (words store : List ℕ) → length words ≡ 4 → length store ≡ storeBytes → Heads (headerIn (131 ∷ 68 ∷ 1 ∷ 8 ∷ 5 ∷ 1 ∷ 97 ∷ []) (length store)) words store
@@ -86,7 +88,7 @@ unfolding headerIn
 eof = rw (header.examples .long)
 
 pub starred : Starred
-unfolding readAll wholeFrom judged readAt answer behind bitString bitsThen bitsByte
+unfolding readAll recordIn wholeFrom ended readAt starts answer behind bitString bitsThen bitsByte
 starred = record {
   empty = λ room. refl;
   nothing = λ room. refl;
@@ -97,8 +99,8 @@ starred = record {
   pid = λ room. refl;
   deep = λ room. refl;
   not-deep = λ room h. rw (le-ltb room 10 h) refl;
-  less-one = minus-one;
-  least = heads.least;
+  less-one = sym (head-is _ 1) ∙ minus-one;
+  least = sym (head-is _ 0) ∙ heads.least;
   no-bits = λ room h. rw (le-ltb room 5 h) refl;
   seven-bits = λ room. refl;
   header = one-name;

@@ -10,17 +10,22 @@ use lib.Dec.{ltb, eqb}
 use lib.ListN.{length, getD, drop, length-append}
 use lib.Seq.{take-all, take-append-seam, drop-at}
 use borrow.Author.Tests.{ltb-false, eqb-true, eqb-false, eq-eqb}
-use Rattle.rows.specs.Numbers as number
-use Rattle.terms.specs.declared.Answer.{Answer}
-use Rattle.terms.specs.Answer.{refusal, before, readAt}
-use Rattle.terms.proofs.Bounds.{bounded}
-use Rattle.terms.proofs.Bounds as bounds
+use Rattle.numbers.specs.Caps as cap
+use Rattle.numbers.specs.Numbers as number
+use Rattle.numbers.specs.Numbers.{among, Listed, outcome, Shown}
+use Rattle.numbers.proofs.Laws.{listed-shown}
+use Rattle.reading.specs.declared.Answer.{Answer}
+use Rattle.reading.specs.Answer.{refusal, early, readAt}
+use Rattle.reading.proofs.Answers.{by-start}
+use Rattle.reading.proofs.Bounds.{bounded}
+use Rattle.reading.proofs.Bounds as bounds
+use Rattle.reading.proofs.Outcomes.{read-shown}
 use Rattle.layouts.specs.Tree.{Tree, Stands, bytes, size, depth}
-use Rattle.layouts.proofs.Accepts.{read-sound, read-complete}
+use Rattle.accepts.proofs.Accepts.{read-sound, read-complete}
 use Rattle.tape.specs.Cells.{cellWords, words, taped}
-use Rattle.tape.specs.Read.{judged, wholeFrom, readAll, Left, Accepted}
-use Rattle.tape.specs.Spans.{Nested, IsTerm, startAt, endAt}
-use Rattle.tape.proofs.Blocks.{words-length}
+use Rattle.tape.specs.Read.{ended, wholeFrom, recordIn, readAll, TapeAfter, Accepted, Promised}
+use Rattle.tape.specs.Spans.{Nested, OnePerTerm, startAt, endAt}
+use Rattle.tape.proofs.Words.{words-length}
 use Rattle.tape.proofs.Reading.{read-on, whole-done, behind-131}
 use Rattle.tape.proofs.Spans as spans
 
@@ -42,7 +47,7 @@ all (x ∷ b) l e s h =
 
 module _ (b : List ℕ) (limit room : ℕ) where
   -- an accepted input is read, and its terms are counted
-  pub complete : 1 ≤ limit → limit ≤ 64 → length b ≤ 16777216 → (a : Accepted b limit room) → (readAll b limit room .number ≡ 0) × (readAll b limit room .begun ≡ size (a .tree))
+  pub complete : 1 ≤ limit → limit ≤ cap.nesting → length b ≤ cap.input → (a : Accepted b limit room) → (readAll b limit room .number ≡ 0) × (readAll b limit room .begun ≡ size (a .tree))
   complete h k l a =
       let s = behind-131 (a .tree) (a .is) in
       let (n, e, c) = read-complete b 1 limit (a .tree) (a .laid) h (a .nested) k l s in
@@ -53,35 +58,37 @@ module _ (b : List ℕ) (limit room : ℕ) where
       rw r (n, c)
 
   -- what a Done answer says: it is the reading's, all of the input was read, and there was room
-  record Read : Type 0 where
-    short : length b ≤ 16777216
+  record Read (r : Answer) : Type 0 where
+    short : length b ≤ cap.input
     here : ¬ (length b ≡ 0)
     first : getD b 0 0 ≡ 131
     done : readAt b 1 limit .number ≡ 0
     ends : length b ≤ readAt b 1 limit .end
     fits : cellWords * readAt b 1 limit .begun ≤ room
-    is : readAll b limit room ≡ readAt b 1 limit
+    is : r ≡ readAt b 1 limit
 
-  reads : readAll b limit room .number ≡ 0 → Read
-  unfolding readAll wholeFrom judged
-  reads e =
+  record-reads : length b ≤ cap.input → recordIn b limit room .number ≡ 0 → Read (recordIn b limit room)
+  unfolding recordIn wholeFrom ended
+  record-reads l e =
       let a = readAt b 1 limit in
-      let (_, (p₁, e₁)) = passed (eqb limit 0 || ltb 64 limit) (before number.Limit) _ (λ z. omega arith) e in
-      let (x₂, (p₂, e₂)) = passed (ltb 16777216 (length b)) (before number.Long) _ (λ z. omega arith) e₁ in
-      let (x₃, (p₃, e₃)) = passed (eqb (length b) 0) (before number.Eof) _ (λ z. omega arith) e₂ in
-      let (x₄, (p₄, e₄)) = taken (eqb (getD b 0 0) 131) _ (before number.Tag) (λ z. absurd (omega arith)) e₃ in
+      let (x₃, (p₃, e₃)) = passed (eqb (length b) 0) (early number.Eof) _ (λ z. omega arith) e in
+      let (x₄, (p₄, e₄)) = taken (eqb (getD b 0 0) 131) _ (early number.Tag) (λ z. absurd (omega arith)) e₃ in
       let (x₅, (p₅, e₅)) = taken (eqb (a .number) 0) _ a (λ z. eq-eqb (a .number) 0 z) e₄ in
       let (x₆, (p₆, e₆)) = passed (ltb (a .end) (length b)) (refusal number.Trailing (a .end) (length b - a .end) (a .begun) (a .deepest) []) _ (λ z. omega arith) e₅ in
       let (x₇, (p₇, _)) = passed (ltb room (cellWords * a .begun)) (refusal number.Room 0 (a .begun) (a .begun) (a .deepest) []) a (λ z. omega arith) e₆ in
       record {
-        short = ltb-false 16777216 (length b) x₂;
+        short = l;
         here = eqb-false (length b) 0 x₃;
         first = eqb-true (getD b 0 0) 131 x₄;
         done = eqb-true (a .number) 0 x₅;
         ends = ltb-false (a .end) (length b) x₆;
         fits = ltb-false room (cellWords * a .begun) x₇;
-        is = p₁ ∙ p₂ ∙ p₃ ∙ p₄ ∙ p₅ ∙ p₆ ∙ p₇;
+        is = p₃ ∙ p₄ ∙ p₅ ∙ p₆ ∙ p₇;
       }
+
+  reads : readAll b limit room .number ≡ 0 → Read (readAll b limit room)
+  unfolding readAll
+  reads = by-start limit (length b) (λ r. r .number ≡ 0 → Read r) _ (λ e. absurd (omega arith)) (λ e. absurd (omega arith)) (λ _ _ l. record-reads l)
 
   -- an input that is read is accepted
   pub sound : readAll b limit room .number ≡ 0 → Accepted b limit room
@@ -99,34 +106,41 @@ module _ (b : List ℕ) (limit room : ℕ) where
   deepest-is e = let r = reads e in ap (λ (a : Answer). a .deepest) (r .is) ∙ read-sound b 1 limit (r .done) .nested
 
   -- what every answer has: one before reading, the reading's, and a refusal behind it with its counts
-  answers : (P : Answer → Type 0) → ((n : ℕ) → P (before n)) → (¬ (length b ≡ 0) → P (readAt b 1 limit)) →
-      (¬ (length b ≡ 0) → (n o x : ℕ) → P (refusal n o x (readAt b 1 limit .begun) (readAt b 1 limit .deepest) [])) → P (readAll b limit room)
-  unfolding readAll wholeFrom judged
+  answers : (P : Answer → Type 0) → ((n : ℕ) → Listed n → P (early n)) → (¬ (length b ≡ 0) → P (readAt b 1 limit)) →
+      (¬ (length b ≡ 0) → (n o x : ℕ) → Listed n → P (refusal n o x (readAt b 1 limit .begun) (readAt b 1 limit .deepest) [])) → P (readAll b limit room)
+  unfolding readAll recordIn wholeFrom ended among
   answers P h k l =
+      by-start limit (length b) P _ (h _ refl) (h _ refl) (λ _ _ _.
       let a = readAt b 1 limit in
-      picks (eqb limit 0 || ltb 64 limit) _ _ (λ _. h _) (λ _.
-      picks (ltb 16777216 (length b)) _ _ (λ _. h _) (λ _.
-      picks (eqb (length b) 0) _ _ (λ _. h _) (λ e.
+      picks (eqb (length b) 0) _ _ (λ _. h _ refl) (λ e.
       let i = eqb-false (length b) 0 e in
       picks (eqb (getD b 0 0) 131) _ _ (λ _.
       picks (eqb (a .number) 0) _ a (λ _.
-      picks (ltb (a .end) (length b)) _ _ (λ _. l i _ _ _) (λ _. picks (ltb room (cellWords * a .begun)) _ a (λ _. l i _ _ _) (λ _. k i))) (λ _. k i)) (λ _. h _))))
+      picks (ltb (a .end) (length b)) _ _ (λ _. l i _ _ _ refl) (λ _. picks (ltb room (cellWords * a .begun)) _ a (λ _. l i _ _ _ refl) (λ _. k i))) (λ _. k i)) (λ _. h _ refl)))
     where
       picks : (x : Bool) (r o : Answer) → (x ≡ true → P r) → (x ≡ false → P o) → P (cond x r o)
       picks true r o h k = h refl
       picks false r o h k = k refl
 
+  -- one that was Done has no more cells than there is room for
+  fitting : readAll b limit room .number ≡ 0 → cellWords * readAll b limit room .begun ≤ room
+  fitting e = omega (arith, sound e .room, begun-is e)
+
   -- none reports more terms than bytes behind the first, or has a path of more than 64 segments
   few : readAll b limit room .begun ≤ length b - 1
   few =
       let h : ¬ (length b ≡ 0) → readAt b 1 limit .begun ≤ length b - 1 = λ e. bounded b 1 limit (omega (arith, e)) .counted in
-      answers (λ r. r .begun ≤ length b - 1) (λ n. omega arith) h (λ e n o x. h e)
+      answers (λ r. r .begun ≤ length b - 1) (λ n k. omega arith) h (λ e n o x k. h e)
 
-  short : readAll b limit room .len ≤ 64
-  short = answers (λ r. r .len ≤ 64) (λ n. omega arith) (λ e. bounds.few-segments b 1 limit) (λ e n o x. omega arith)
+  short : readAll b limit room .len ≤ cap.nesting
+  short = answers (λ r. r .len ≤ cap.nesting) (λ n k. omega arith) (λ e. bounds.few-segments b 1 limit) (λ e n o x k. omega arith)
+
+  -- each is Done, or refused by a number of the list
+  shown : Shown (outcome (readAll b limit room .number))
+  shown = answers (λ r. Shown (outcome (r .number))) listed-shown (λ e. read-shown b limit 1) (λ e n o x. listed-shown n)
 
   -- "accepted exactly when it is byte 131 and one whole term"
-  pub accepts : 1 ≤ limit → limit ≤ 64 → length b ≤ 16777216 → (readAll b limit room .number ≡ 0) ↔ Accepted b limit room
+  pub accepts : 1 ≤ limit → limit ≤ cap.nesting → length b ≤ cap.input → (readAll b limit room .number ≡ 0) ↔ Accepted b limit room
   accepts h k l = (sound, λ a. complete h k l a .0)
 
 -- a tape that was written: its words at the front, and the old ones behind them
@@ -141,20 +155,22 @@ module _ (t : Tree) (old : List ℕ) {new : List ℕ} (e : new ≡ taped t old) 
   unfolding taped
   behind-cells = rw e (drop-at (words t 1 0 0) (drop (cellWords * size t) old) (cellWords * size t) (words-length t 1 0 0))
 
--- a call of `read`: its answer, and the tape before and after
-
-pub record Promised (b : List ℕ) (limit : ℕ) (r : Answer) (old new : List ℕ) : Type 0 where
-  pub answered : r ≡ readAll b limit (length old)
-  pub left : Left b (r .number) old new
-
 module _ {b : List ℕ} {limit : ℕ} {r : Answer} {old new : List ℕ} (p : Promised b limit r old new) where
   -- "the reported count of terms begun .. at most the bytes after the first"
   pub counted : r .begun ≤ length b - 1
   counted = rw (p .answered) (few b limit (length old))
 
   -- "at most 64 segments"
-  pub few-segments : r .len ≤ 64
+  pub few-segments : r .len ≤ cap.nesting
   few-segments = rw (p .answered) (short b limit (length old))
+
+  -- "A refusal bears a number from document 01 or 02"
+  pub answer-shown : Shown (outcome (r .number))
+  answer-shown = rw (p .answered) (shown b limit (length old))
+
+  -- a Done one has no more cells than there is room for
+  pub in-room : r .number ≡ 0 → cellWords * r .begun ≤ length old
+  in-room d = rw (p .answered) (fitting b limit (length old) (rw (p .answered) at d))
 
   -- a refused read leaves the tape
   pub untouched : ¬ (r .number ≡ 0) → new ≡ old
@@ -172,7 +188,7 @@ module _ {b : List ℕ} {limit : ℕ} {r : Answer} {old new : List ℕ} (p : Pro
     wrote : new ≡ taped (accepted .tree) old
     wrote = p .left .done d (accepted .tree) (accepted .laid) (accepted .is)
 
-    -- one cell per term
+    -- as many terms were begun as there are
     pub cells : r .begun ≡ size (accepted .tree)
     unfolding accepted
     cells = ap (λ (a : Answer). a .begun) (p .answered) ∙ begun-is b limit (length old) is-done
@@ -194,8 +210,9 @@ module _ {b : List ℕ} {limit : ℕ} {r : Answer} {old new : List ℕ} (p : Pro
     pub nested : Nested new (r .begun)
     nested = rw cells (spans.nested (accepted .tree) new front)
 
-    pub terms : (i : ℕ) → i < r .begun → IsTerm new b i
-    terms i h = spans.is-term (accepted .tree) b new (accepted .laid) (behind-131 (accepted .tree) (accepted .is)) front i (rw cells at h)
+    -- "one cell per term": the cells are the tree's terms in pre-order, each with its own bytes' place
+    pub nodes : OnePerTerm new b (accepted .tree) (r .begun)
+    nodes = spans.one-per-term (accepted .tree) b new (accepted .laid) (behind-131 (accepted .tree) (accepted .is)) front cells
 
     pub whole : (startAt new 0 ≡ 1) × (endAt new 0 ≡ length b)
     whole =

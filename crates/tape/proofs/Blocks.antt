@@ -14,9 +14,11 @@ use lib.ListN.{length, getD, drop, length-append}
 use lib.Seq.{getD-take, getD-drop}
 use borrow.Author.Tests.{ltb-true, ltb-false}
 use Rattle.layouts.specs.Tree.{Tree, Forest, Stands, node, none, more, bytes, bytesAll, size, sizes, tagOf}
+use Rattle.layouts.specs.Nodes.{Node}
 use Rattle.layouts.proofs.Stands.{left, right}
-use Rattle.tape.specs.Cells.{cellWords, cell, words, wordsAll}
+use Rattle.tape.specs.Cells.{cellWords, cell, cellOf, words, wordsAll}
 use Rattle.tape.specs.Spans.{tagAt, startAt, endAt, parentAt, sizeAt}
+use Rattle.tape.proofs.Words.{words-node, wordsAll-more, words-length}
 
 -- a number lies before m, or from m on
 pub by-place : {A : Type 0} (i m : ℕ) → (i < m → A) → (m ≤ i → A) → A
@@ -29,17 +31,6 @@ by-place {A} i m f g = go (ltb i m) refl
 -- what holds at c and behind it holds from c on
 pub from : (P : ℕ → Type 0) (c : ℕ) → P c → ((i : ℕ) → c < i → P i) → (i : ℕ) → c ≤ i → P i
 from P c z s i h = by-place i (c + 1) (λ k. let e : c ≡ i = omega arith in subst P e z) (λ k. s i (omega arith))
-
--- each term has its five words
-mutual
-  unfolding words size
-
-  pub words-length : (t : Tree) (p up c : ℕ) → length (words t p up c) ≡ cellWords * size t
-  words-length (node tag front ts back) p up c = omega (arith, wordsAll-length ts (p + 1 + length front) c (c + 1))
-
-  pub wordsAll-length : (ts : Forest) (p up c : ℕ) → length (wordsAll ts p up c) ≡ cellWords * sizes ts
-  wordsAll-length none p up c = refl
-  wordsAll-length (more t ts) p up c = simp length-append (omega (arith, words-length t p up c, wordsAll-length ts (p + length (bytes t)) up (c + size t)))
 
 -- a term's bytes are its tag, what stands in front of its children, theirs, and what stands behind them
 spread : (tag : ℕ) (front : List ℕ) (ts : Forest) (back : List ℕ) → length (bytes (node tag front ts back)) ≡ 1 + length front + length (bytesAll ts) + length back
@@ -55,41 +46,40 @@ module _ (tape : List ℕ) where
     pub parent : parentAt tape c ≡ up
     pub counted : sizeAt tape c ≡ size t
 
-  -- where the words of the term stand, these come first
-  pub own : (t : Tree) (p up c : ℕ) → Stands tape (cellWords * c) (words t p up c) → Own t p up c
-  unfolding words
-  own (node tag front ts back) p up c s =
+  -- where a cell stands, these are its words
+  pub cell-words : (n : Node) (c : ℕ) → Stands tape (cellWords * c) (cellOf n) → Own (n .tree) (n .start) (n .parent) c
+  cell-words n c s =
       record { tag = word 0 (omega arith); start = word 1 (omega arith); end = word 2 (omega arith); parent = word 3 (omega arith); counted = word 4 (omega arith) }
     where
-      l : List ℕ
-      l = words (node tag front ts back) p up c
-
-      word : (k : ℕ) → k < cellWords → getD tape (cellWords * c + k) 0 ≡ getD l k 0
+      word : (k : ℕ) → k < cellWords → getD tape (cellWords * c + k) 0 ≡ getD (cellOf n) k 0
       word k h =
           sym (getD-drop (cellWords * c) tape k 0)
-          ∙ sym (getD-take (length l) (drop (cellWords * c) tape) k 0 (omega arith))
+          ∙ sym (getD-take cellWords (drop (cellWords * c) tape) k 0 h)
           ∙ ap (λ (r : List ℕ). getD r k 0) (s .same)
+
+  -- where the words of a term stand, its own cell comes first
+  pub own : (t : Tree) (p up c : ℕ) → Stands tape (cellWords * c) (words t p up c) → Own t p up c
+  own (node tag front ts back) p up c s =
+      let n : Node = record { tree = node tag front ts back; start = p; parent = up } in
+      cell-words n c (left tape (cellWords * c) (cellOf n) _ (rw words-node at s))
 
   -- and then its children's
   pub kids : (tag : ℕ) (front : List ℕ) (ts : Forest) (back : List ℕ) (p up c : ℕ) → Stands tape (cellWords * c) (words (node tag front ts back) p up c) →
       Stands tape (cellWords * (c + 1)) (wordsAll ts (p + 1 + length front) c (c + 1))
-  unfolding words
   kids tag front ts back p up c s =
       let t : Tree = node tag front ts back in
       let e : cellWords * c + cellWords ≡ cellWords * (c + 1) = omega arith in
-      rw e at (right tape (cellWords * c) (cell tag p (p + length (bytes t)) up (size t)) _ s)
+      rw e at (right tape (cellWords * c) (cell tag p (p + length (bytes t)) up (size t)) _ (rw words-node at s))
 
   -- of terms side by side, the first one's and then the others'
   module _ (t : Tree) (ts : Forest) (p up c : ℕ) (s : Stands tape (cellWords * c) (wordsAll (more t ts) p up c)) where
     pub first : Stands tape (cellWords * c) (words t p up c)
-    unfolding words
-    first = left tape (cellWords * c) (words t p up c) _ s
+    first = left tape (cellWords * c) (words t p up c) _ (rw wordsAll-more at s)
 
     pub others : Stands tape (cellWords * (c + size t)) (wordsAll ts (p + length (bytes t)) up (c + size t))
-    unfolding words
     others =
         let e : cellWords * c + length (words t p up c) ≡ cellWords * (c + size t) = omega (arith, words-length t p up c) in
-        rw e at (right tape (cellWords * c) (words t p up c) _ s)
+        rw e at (right tape (cellWords * c) (words t p up c) _ (rw wordsAll-more at s))
 
   -- a cell of a block that ends before cell d, with its span from p up to e
   pub record Cell (d p e i : ℕ) : Type 0 where

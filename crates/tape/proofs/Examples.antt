@@ -1,55 +1,60 @@
 -- Readers that document 01 shuts out by name, each on an input where its answer or its tape breaks the promise of `read`
--- (Accepts.antt, `Promised`), and the record that document 01 prints. Assumes nothing.
+-- (specs/Read.antt, `Promised`), and the record that document 01 prints. Assumes nothing.
 use Prim.Native.Nat.{ℕ, suc, _-_, _*_, _≤_, _<_}
 use native.Mathlib.Omega.{arith}
 use mathlib.Core.Path.{_≡_, refl, ap, sym, _∙_}
-use mathlib.Core.List.{List, [], _∷_}
-use lib.ListN.{length, drop}
+use mathlib.Core.Bool.{true}
+use mathlib.Core.Option.{some}
+use mathlib.Core.List.{List, [], _∷_, flatMap}
+use lib.ListN.{length, getD, getElem?, take, drop}
+use Rattle.numbers.specs.Caps as cap
 use Rattle.fields.specs.Be.{be}
+use Rattle.utf8.specs.Unicode.{scalar, encode}
 use Rattle.utf8.specs.Good as good
-use Rattle.rows.specs.Numbers as number
-use Rattle.terms.specs.declared.Answer.{Answer}
-use Rattle.terms.specs.declared.Kind.the-variants as kind
-use Rattle.terms.specs.declared.Segment.{Segment}
-use Rattle.terms.specs.Reading.{At, Out, done, no}
-use Rattle.terms.specs.Answer.{refusal, answer, readAt}
-use Rattle.terms.proofs.Examples.{behind, stands, segment, nil, second-missing}
-use Rattle.terms.proofs.Path as path
+use Rattle.numbers.specs.Numbers as number
+use Rattle.reading.specs.declared.Answer.{Answer}
+use Rattle.reading.specs.declared.Kind.the-variants as kind
+use Rattle.reading.specs.declared.Segment.{Segment}
+use Rattle.reading.specs.Reading.{State, Result, done, no}
+use Rattle.reading.specs.Answer.{refusal, answer, readAt}
+use Rattle.reading.proofs.Examples.{behind, stands, segment, nil, second-missing}
+use Rattle.reading.proofs.Answers as answers
 use Rattle.layouts.specs.Tree.{Tree, node, none, more, leaf, bytes, bytesAll, size, sizes, count}
 use Rattle.layouts.specs.Layout as layout
-use Rattle.layouts.specs.Layout.{Laid, Number, Utf8, row, small-tuple, list, no-more, one-more}
-use Rattle.tape.specs.Cells.{cellWords, words, wordsAll, taped}
-use Rattle.tape.specs.Read.{wholeFrom}
-use Rattle.tape.specs.Spans.{tagAt}
-use Rattle.tape.proofs.Reading.{read-on, whole-refused, whole-trailing, whole-room, whole-done}
-use Rattle.tape.proofs.Accepts.{Promised}
+use Rattle.layouts.specs.Layout.{Laid, Number, row, small-tuple, list, no-more, one-more}
+use Rattle.layouts.specs.Nodes.{Node, nodes, nodesAll}
+use Rattle.layouts.proofs.Shapes.{unique}
+use Rattle.tape.specs.Cells.{cellWords, cellOf, words, taped}
+use Rattle.tape.specs.Read.{wholeFrom, Promised}
+use Rattle.tape.specs.Spans.{tagAt, OnePerTerm}
+use Rattle.tape.proofs.Reading.{read-on, whole-refused, whole-trailing, whole-room, whole-done, behind-131}
 
 -- what a promised call answers and leaves, by what the reading behind byte 131 comes to
-module _ {l : List ℕ} {r : Answer} {old new : List ℕ} (short : suc (length l) ≤ 16777216) (p : Promised (131 ∷ l) 64 r old new) where
+module _ {l : List ℕ} {r : Answer} {old new : List ℕ} (short : suc (length l) ≤ cap.input) (p : Promised (131 ∷ l) 64 r old new) where
   whole : {a : Answer} → a ≡ wholeFrom (131 ∷ l) 1 64 (length old) → r ≡ a
   whole e = p .answered ∙ read-on (131 ∷ l) 64 (length old) (λ z. omega arith) (omega arith) short (λ z. omega arith) refl ∙ sym e
 
-  reads : {o : Out} → behind (131 ∷ l) 64 ≡ o → answer o ≡ readAt (131 ∷ l) 1 64
+  reads : {o : Result} → behind (131 ∷ l) 64 ≡ o → answer o ≡ readAt (131 ∷ l) 1 64
   unfolding behind
-  reads {o} e = sym (path.read-on (131 ∷ l) 1 64 o (λ z. omega arith) (omega arith) short (sym e))
+  reads {o} e = sym (answers.read-on (131 ∷ l) 1 64 o (λ z. omega arith) (omega arith) short (sym e))
 
   left-alone : {a : Answer} → ¬ (a .number ≡ 0) → a ≡ wholeFrom (131 ∷ l) 1 64 (length old) → (r ≡ a) × (new ≡ old)
   left-alone h e = (whole e, p .left .refused (rw (whole e) h))
 
-  refused : {n x : ℕ} {s : At} {way : List Segment} → behind (131 ∷ l) 64 ≡ no n x s way → ¬ (n ≡ 0) → (r ≡ answer (no n x s way)) × (new ≡ old)
+  refused : {n x : ℕ} {s : State} {way : List Segment} → behind (131 ∷ l) 64 ≡ no n x s way → ¬ (n ≡ 0) → (r ≡ answer (no n x s way)) × (new ≡ old)
   unfolding answer
   refused e h = left-alone h (whole-refused (131 ∷ l) 64 (length old) (reads e) h)
 
-  module _ {s : At} (e : behind (131 ∷ l) 64 ≡ done s) where
-    trailing : s .pos < suc (length l) → (r ≡ refusal number.Trailing (s .pos) (suc (length l) - s .pos) (s .begun) (s .deepest) []) × (new ≡ old)
+  module _ {s : State} (e : behind (131 ∷ l) 64 ≡ done s) where
+    trailing : s .at < suc (length l) → (r ≡ refusal number.Trailing (s .at) (suc (length l) - s .at) (s .begun) (s .deepest) []) × (new ≡ old)
     unfolding answer
     trailing h = left-alone (λ z. omega arith) (whole-trailing (131 ∷ l) 64 (length old) (reads e) refl h)
 
-    no-room : suc (length l) ≤ s .pos → length old < cellWords * s .begun → (r ≡ refusal number.Room 0 (s .begun) (s .begun) (s .deepest) []) × (new ≡ old)
+    no-room : suc (length l) ≤ s .at → length old < cellWords * s .begun → (r ≡ refusal number.Room 0 (s .begun) (s .begun) (s .deepest) []) × (new ≡ old)
     unfolding answer
     no-room h k = left-alone (λ z. omega arith) (whole-room (131 ∷ l) 64 (length old) (reads e) refl h k)
 
-    goes : suc (length l) ≤ s .pos → cellWords * s .begun ≤ length old → r ≡ answer (done s)
+    goes : suc (length l) ≤ s .at → cellWords * s .begun ≤ length old → r ≡ answer (done s)
     unfolding answer
     goes h k = whole (whole-done (131 ∷ l) 64 (length old) (reads e) refl h k)
 
@@ -57,13 +62,18 @@ module _ {l : List ℕ} {r : Answer} {old new : List ℕ} (short : suc (length l
 exact : {l : List ℕ} → Number (length l) l (be l)
 exact = record { wide = refl; is = refl }
 
+-- an atom whose name is a letter
+named : (x : ℕ) → scalar x ≡ true → encode x ≡ x ∷ [] → Laid (leaf 119 (1 ∷ x ∷ []))
+unfolding be good.spelled
+named x h e = row (layout.small-atom (1 ∷ []) (x ∷ []) exact (record { chars = x ∷ []; scalars = good.more h good.none; is = rw e }))
+
 -- 131 106, with room for its cell
 module _ {r : Answer} {old new : List ℕ} (h : 5 ≤ length old) (p : Promised (131 ∷ 106 ∷ []) 64 r old new) where
   nil-done : r ≡ answer (done (stands 2 1 1 1))
   nil-done = goes (omega arith) p nil (omega arith) h
 
   nil-tape : new ≡ 106 ∷ 1 ∷ 2 ∷ 0 ∷ 1 ∷ drop 5 old
-  unfolding answer bytes bytesAll size sizes words wordsAll taped
+  unfolding answer bytes bytesAll size sizes words nodes nodesAll flatMap taped
   nil-tape = p .left .done (rw nil-done refl) (leaf 106 []) (row layout.nil) refl
 
 -- 131 104 1 106: its reading, and with room for its cells
@@ -76,7 +86,7 @@ module _ {r : Answer} {old new : List ℕ} (h : 10 ≤ length old) (p : Promised
   tuple-done = goes (omega arith) p tuple (omega arith) h
 
   tuple-tape : new ≡ 104 ∷ 1 ∷ 4 ∷ 0 ∷ 2 ∷ 106 ∷ 3 ∷ 4 ∷ 0 ∷ 1 ∷ drop 10 old
-  unfolding answer be bytes bytesAll count size sizes words wordsAll taped
+  unfolding answer be bytes bytesAll count size sizes words nodes nodesAll flatMap taped
   tuple-tape =
       p .left .done (rw tuple-done refl) (node 104 (1 ∷ []) (more (leaf 106 []) none) [])
       (small-tuple exact (one-more (row layout.nil) no-more)) refl
@@ -126,7 +136,7 @@ pub folded-tail : {r : Answer} {old new : List ℕ} → 25 ≤ length old →
     Promised (131 ∷ 108 ∷ 0 ∷ 0 ∷ 0 ∷ 1 ∷ 97 ∷ 1 ∷ 108 ∷ 0 ∷ 0 ∷ 0 ∷ 1 ∷ 97 ∷ 2 ∷ 106 ∷ []) 64 r old new →
     (r .begun ≡ 5)
     × (new ≡ 108 ∷ 1 ∷ 16 ∷ 0 ∷ 5 ∷ 97 ∷ 6 ∷ 8 ∷ 0 ∷ 1 ∷ 108 ∷ 8 ∷ 16 ∷ 0 ∷ 3 ∷ 97 ∷ 13 ∷ 15 ∷ 2 ∷ 1 ∷ 106 ∷ 15 ∷ 16 ∷ 2 ∷ 1 ∷ drop 25 old)
-unfolding answer behind be bytes bytesAll count size sizes words wordsAll taped
+unfolding answer behind be bytes bytesAll count size sizes words nodes nodesAll flatMap taped
 folded-tail {r} h p =
     let e : r ≡ answer (done (stands 16 15 5 3)) = goes (omega arith) p refl (omega arith) h in
     (rw e refl, p .left .done (rw e refl) (one-then 1 (one-then 2 (leaf 106 []))) (one-laid (one-laid (row layout.nil))) refl)
@@ -147,14 +157,60 @@ room-first p = trailing (omega arith) p refl (omega arith)
 pub printed : {r : Answer} {old new : List ℕ} → 15 ≤ length old → Promised (131 ∷ 104 ∷ 2 ∷ 97 ∷ 5 ∷ 119 ∷ 1 ∷ 97 ∷ []) 64 r old new →
     (r .number ≡ 0) × (r .begun ≡ 3) × (r .deepest ≡ 2)
     × (new ≡ 104 ∷ 1 ∷ 8 ∷ 0 ∷ 3 ∷ 97 ∷ 3 ∷ 5 ∷ 0 ∷ 1 ∷ 119 ∷ 5 ∷ 8 ∷ 0 ∷ 1 ∷ drop 15 old)
-unfolding answer behind good.spelled be bytes bytesAll count size sizes words wordsAll taped
+unfolding answer behind scalar encode be bytes bytesAll count size sizes words nodes nodesAll flatMap taped
 printed {r} h p =
-    let e : r ≡ answer (done (stands 8 5 3 2)) = goes (omega arith) p refl (omega arith) h in
-    let letter : Utf8 (97 ∷ []) = record { chars = 97 ∷ []; scalars = good.more refl good.none; is = refl } in (
+    let e : r ≡ answer (done (stands 8 5 3 2)) = goes (omega arith) p refl (omega arith) h in (
       rw e refl,
       rw e refl,
       rw e refl,
       p .left .done (rw e refl) (node 104 (2 ∷ []) (more (leaf 97 (5 ∷ [])) (more (leaf 119 (1 ∷ 97 ∷ [])) none)) [])
-          (small-tuple exact (one-more (row (layout.small-integer refl)) (one-more (row (layout.small-atom (1 ∷ []) (97 ∷ []) exact letter)) no-more)))
+          (small-tuple exact (one-more (row (layout.small-integer refl)) (one-more (named 97 refl refl) no-more)))
           refl,
     )
+
+-- the cell that number i of a record's terms must have, whatever tree the record is taken for: it is one tree's
+must-be : {b tape : List ℕ} {n : ℕ} (x t : Tree) → length b ≤ cap.input → Laid x → b ≡ 131 ∷ bytes x → Laid t → b ≡ 131 ∷ bytes t → OnePerTerm tape b t n →
+    (i : ℕ) → i < n → {m : Node} → getElem? (nodes x 1 0 0) i ≡ some m → take cellWords (drop (cellWords * i) tape) ≡ cellOf m
+must-be {b} x t h l e l' e' w i k {m} f =
+    let u : x ≡ t = unique b 1 x t h l l' (behind-131 x e) (behind-131 t e') in
+    let c = w .each i k in
+    let g : some m ≡ some (c .node) = sym f ∙ ap (λ (y : Tree). getElem? (nodes y 1 0 0) i) u ∙ c .numbered in
+    let j : c .node ≡ m = cc in
+    c .cell .same ∙ ap cellOf j
+
+-- "one cell per term": a reader that looks for tags byte by byte, and so finds a term inside a binary. 131 104 2 109 0 0 0 1 106 106 has
+-- the binary's cell, and none for the byte 106 in it
+pub inside-a-binary : (t : Tree) → Laid t → 131 ∷ 104 ∷ 2 ∷ 109 ∷ 0 ∷ 0 ∷ 0 ∷ 1 ∷ 106 ∷ 106 ∷ [] ≡ 131 ∷ bytes t → {rest : List ℕ} →
+    ¬ OnePerTerm (104 ∷ 1 ∷ 10 ∷ 0 ∷ 3 ∷ 106 ∷ 8 ∷ 9 ∷ 0 ∷ 1 ∷ 106 ∷ 9 ∷ 10 ∷ 0 ∷ 1 ∷ rest) (131 ∷ 104 ∷ 2 ∷ 109 ∷ 0 ∷ 0 ∷ 0 ∷ 1 ∷ 106 ∷ 106 ∷ []) t 3
+unfolding be bytes count nodes
+inside-a-binary t l e w =
+    let x : Tree = node 104 (2 ∷ []) (more (leaf 109 (0 ∷ 0 ∷ 0 ∷ 1 ∷ 106 ∷ [])) (more (leaf 106 []) none)) [] in
+    let k : Laid x = small-tuple exact (one-more (row (layout.binary (0 ∷ 0 ∷ 0 ∷ 1 ∷ []) (106 ∷ []) exact (omega arith))) (one-more (row layout.nil) no-more)) in
+    omega (arith, ap (λ (c : List ℕ). getD c 0 0) (must-be x t (omega arith) k refl l e w 1 (omega arith) refl))
+
+-- or inside a name: 131 104 1 119 1 106 has the atom's cell, and none for the byte 106 in it
+pub inside-a-name : (t : Tree) → Laid t → 131 ∷ 104 ∷ 1 ∷ 119 ∷ 1 ∷ 106 ∷ [] ≡ 131 ∷ bytes t → {rest : List ℕ} →
+    ¬ OnePerTerm (104 ∷ 1 ∷ 6 ∷ 0 ∷ 2 ∷ 106 ∷ 5 ∷ 6 ∷ 0 ∷ 1 ∷ rest) (131 ∷ 104 ∷ 1 ∷ 119 ∷ 1 ∷ 106 ∷ []) t 2
+unfolding be bytes count nodes scalar encode
+inside-a-name t l e w =
+    let x : Tree = node 104 (1 ∷ []) (more (leaf 119 (1 ∷ 106 ∷ [])) none) [] in
+    let k : Laid x = small-tuple exact (one-more (named 106 refl refl) no-more) in
+    omega (arith, ap (λ (c : List ℕ). getD c 0 0) (must-be x t (omega arith) k refl l e w 1 (omega arith) refl))
+
+-- a reader that writes one child's cell for its sibling too: the third cell of 131 104 2 106 106 starts at 4 and not at 3
+pub child-twice : (t : Tree) → Laid t → 131 ∷ 104 ∷ 2 ∷ 106 ∷ 106 ∷ [] ≡ 131 ∷ bytes t → {rest : List ℕ} →
+    ¬ OnePerTerm (104 ∷ 1 ∷ 5 ∷ 0 ∷ 3 ∷ 106 ∷ 3 ∷ 4 ∷ 0 ∷ 1 ∷ 106 ∷ 3 ∷ 4 ∷ 0 ∷ 1 ∷ rest) (131 ∷ 104 ∷ 2 ∷ 106 ∷ 106 ∷ []) t 3
+unfolding be bytes count nodes
+child-twice t l e w =
+    let x : Tree = node 104 (2 ∷ []) (more (leaf 106 []) (more (leaf 106 []) none)) [] in
+    let k : Laid x = small-tuple exact (one-more (row layout.nil) (one-more (row layout.nil) no-more)) in
+    omega (arith, ap (λ (c : List ℕ). getD c 1 0) (must-be x t (omega arith) k refl l e w 2 (omega arith) refl))
+
+-- a reader that writes a cell when its term ends: the cells of 131 104 1 106 are all there, and the child's stands before its parent's
+pub children-first : (t : Tree) → Laid t → 131 ∷ 104 ∷ 1 ∷ 106 ∷ [] ≡ 131 ∷ bytes t → {rest : List ℕ} →
+    ¬ OnePerTerm (106 ∷ 3 ∷ 4 ∷ 1 ∷ 1 ∷ 104 ∷ 1 ∷ 4 ∷ 1 ∷ 2 ∷ rest) (131 ∷ 104 ∷ 1 ∷ 106 ∷ []) t 2
+unfolding be bytes count nodes
+children-first t l e w =
+    let x : Tree = node 104 (1 ∷ []) (more (leaf 106 []) none) [] in
+    let k : Laid x = small-tuple exact (one-more (row layout.nil) no-more) in
+    omega (arith, ap (λ (c : List ℕ). getD c 0 0) (must-be x t (omega arith) k refl l e w 0 (omega arith) refl))

@@ -9,15 +9,16 @@ use mathlib.Core.Path.{_≡_, refl, ap, sym, _∙_}
 use mathlib.Core.List.{List, [], _∷_, _++_, append-nil}
 use lib.ListN.{length, getD, length-append}
 use lib.Seq.{length-sets}
+use Rattle.numbers.specs.Caps as cap
 use Rattle.layouts.specs.declared.Shape.{Shape}
 use Rattle.layouts.specs.Tree.{Tree, Forest, node, none, more, Stands, bytes, bytesAll, count, size, sizes}
 use Rattle.layouts.specs.Layout.{Laid, AllLaid, one-more}
-use Rattle.layouts.specs.Shape.{ends, shapeAt, shapeBy, shapeOf, shortAt}
+use Rattle.layouts.specs.Inner.Shape.{ends, shapeAt, shapeBy, shapeOf, shortAt}
 use Rattle.layouts.proofs.Stands.{left, right, byte, behind}
 use Rattle.layouts.proofs.Shapes.{by-tag, shape-is, kids-laid, one-leaf, short-is, unique}
 use Rattle.tape.specs.Cells.{cellWords, cell, words, wordsAll}
-use Rattle.tape.specs.Fill.{opened, closed, lay, Good, Filled}
-use Rattle.tape.proofs.Blocks.{words-length}
+use Rattle.tape.specs.Inner.Fill.{opened, closed, lay, Good, Filled}
+use Rattle.tape.proofs.Words.{words-node, wordsAll-none, wordsAll-more, words-length}
 use Rattle.tape.proofs.Stores.{sets-append, cell-closed, length-closed, length-opened, end-read, size-read, parent-read, before-laid, written-over, closed-again}
 
 -- each term has a byte of its own
@@ -57,111 +58,111 @@ module _ (tape : List ℕ) (up : ℕ) where
 
   -- where it ends, and the tape when it is closed, if its children from here on are ks
   abbrev pub endOf : ℕ → Forest → ℕ
-  endOf pos ks = pos + length (bytesAll ks) + bytesBehind
+  endOf at ks = at + length (bytesAll ks) + bytesBehind
 
   abbrev pub tapeOf : ℕ → ℕ → Forest → List ℕ
-  tapeOf pos cell ks = closed (lay tape cell (wordsAll ks pos up cell)) up (endOf pos ks) (cell + sizes ks - up)
+  tapeOf at cell ks = closed (lay tape cell (wordsAll ks at up cell)) up (endOf at ks) (cell + sizes ks - up)
 
 -- the children that are left stand here, with room for their cells
-pub record Here (b : List ℕ) (up n pos cell : ℕ) (tape : List ℕ) (ks : Forest) : Type 0 where
+pub record Here (b : List ℕ) (up n at cell : ℕ) (tape : List ℕ) (ks : Forest) : Type 0 where
   pub laid : AllLaid ks
   pub counted : count ks ≡ n
-  pub stands : Stands b pos (bytesAll ks)
-  pub inside : endOf tape up pos ks ≤ length b
+  pub stands : Stands b at (bytesAll ks)
+  pub inside : endOf tape up at ks ≤ length b
   pub fits : (cell + sizes ks) * cellWords ≤ length tape
   pub below : up < cell
-  pub later : cell ≤ pos
+  pub later : cell ≤ at
 
-pub data Owed (b final : List ℕ) : (up n pos cell : ℕ) → (tape : List ℕ) → Type 0 where
-  owed : {up n pos cell : ℕ} {tape : List ℕ} (ks : Forest) → Here b up n pos cell tape ks →
-      (up ≡ 0 → tapeOf tape up pos cell ks ≡ final) →
+pub data Owed (b final : List ℕ) : (up n at cell : ℕ) → (tape : List ℕ) → Type 0 where
+  owed : {up n at cell : ℕ} {tape : List ℕ} (ks : Forest) → Here b up n at cell tape ks →
+      (up ≡ 0 → tapeOf tape up at cell ks ≡ final) →
       (¬ (up ≡ 0) → outer tape up < up) →
-      (¬ (up ≡ 0) → Owed b final (outer tape up) (rest tape up) (endOf tape up pos ks) (cell + sizes ks) (tapeOf tape up pos cell ks)) →
-      Owed b final up n pos cell tape
+      (¬ (up ≡ 0) → Owed b final (outer tape up) (rest tape up) (endOf tape up at ks) (cell + sizes ks) (tapeOf tape up at cell ks)) →
+      Owed b final up n at cell tape
 
 -- where the innermost term stands
-pub record Top (b : List ℕ) (up pos cell : ℕ) (tape : List ℕ) : Type 0 where
-  pub short : length b ≤ 16777216
+pub record Top (b : List ℕ) (up at cell : ℕ) (tape : List ℕ) : Type 0 where
+  pub short : length b ≤ cap.input
   pub below : up < cell
-  pub later : cell ≤ pos
+  pub later : cell ≤ at
   pub fits : cell * cellWords ≤ length tape
-  pub inside : pos + bytesBehind tape up ≤ length b
+  pub inside : at + bytesBehind tape up ≤ length b
 
 -- a child is left: it stands here, and when its words are written the rest is owed
-pub record Child (b final : List ℕ) (up n pos cell : ℕ) (tape : List ℕ) : Type 0 where
+pub record Child (b final : List ℕ) (up n at cell : ℕ) (tape : List ℕ) : Type 0 where
   pub tree : Tree
   pub laid : Laid tree
-  pub stands : Stands b pos (bytes tree)
-  pub short : length b ≤ 16777216
-  pub some : pos < length b
+  pub stands : Stands b at (bytes tree)
+  pub short : length b ≤ cap.input
+  pub some : at < length b
   pub few : n ≤ length b
   pub fits : (cell + size tree) * cellWords ≤ length tape
   pub room : cell * cellWords + 5 ≤ length tape
   pub below : up < cell
-  pub later : cell ≤ pos
-  pub next : Owed b final up (n - 1) (pos + length (bytes tree)) (cell + size tree) (lay tape cell (words tree pos up cell))
+  pub later : cell ≤ at
+  pub next : Owed b final up (n - 1) (at + length (bytes tree)) (cell + size tree) (lay tape cell (words tree at up cell))
 
 -- what the bytes of a child say of it
-pub record Shaped (b : List ℕ) (pos : ℕ) (g : Shape) : Type 0 where
-  pub after : pos < g .from
-  pub inside : g .from + g .more ≤ length b
+pub record Shaped (b : List ℕ) (at : ℕ) (g : Shape) : Type 0 where
+  pub after : at < g .from
+  pub inside : g .from + g .back ≤ length b
 
 module _ {b final : List ℕ} where
   -- the same, written another way
   moved : {u u' l l' p p' c c' : ℕ} {t t' : List ℕ} → u ≡ u' → l ≡ l' → p ≡ p' → c ≡ c' → t ≡ t' → Owed b final u l p c t → Owed b final u' l' p' c' t'
   moved e f g h i o = rw (sym e, sym f, sym g, sym h, sym i) o
 
-  pub top : {up n pos cell : ℕ} {tape : List ℕ} → length b ≤ 16777216 → Owed b final up n pos cell tape → Top b up pos cell tape
+  pub top : {up n at cell : ℕ} {tape : List ℕ} → length b ≤ cap.input → Owed b final up n at cell tape → Top b up at cell tape
   top s (owed ks h l o t) = record { short = s; below = h .below; later = h .later; fits = omega (arith, h .fits); inside = omega (arith, h .inside) }
 
   -- no child is left: the root is done, and any other gives way to its parent
-  pub done : {up n pos cell : ℕ} {tape : List ℕ} → Owed b final up n pos cell tape → up ≡ 0 → n ≡ 0 → closed tape up (pos + bytesBehind tape up) (cell - up) ≡ final
-  unfolding bytesAll count sizes wordsAll
+  pub done : {up n at cell : ℕ} {tape : List ℕ} → Owed b final up n at cell tape → up ≡ 0 → n ≡ 0 → closed tape up (at + bytesBehind tape up) (cell - up) ≡ final
+  unfolding bytesAll count sizes
   done (owed (more x ks) h l d t) u z = absurd (omega (arith, h .counted))
-  done {up} {n} {pos} {cell} {tape} (owed none h l d t) u z =
-      let e : pos + bytesBehind tape up ≡ endOf tape up pos none = omega arith in
+  done {up} {n} {at} {cell} {tape} (owed none h l d t) u z =
+      let e : at + bytesBehind tape up ≡ endOf tape up at none = omega arith in
       let c : cell - up ≡ cell + 0 - up = omega arith in
-      rw (e, c) (l u)
+      rw (e, c) (rw wordsAll-none at (l u))
 
-  pub shut : {up n pos cell : ℕ} {tape : List ℕ} → Owed b final up n pos cell tape → n ≡ 0 → ¬ (up ≡ 0) →
-      (outer tape up < up) × Owed b final (outer tape up) (rest tape up) (pos + bytesBehind tape up) cell (closed tape up (pos + bytesBehind tape up) (cell - up))
-  unfolding bytesAll count sizes wordsAll
+  pub shut : {up n at cell : ℕ} {tape : List ℕ} → Owed b final up n at cell tape → n ≡ 0 → ¬ (up ≡ 0) →
+      (outer tape up < up) × Owed b final (outer tape up) (rest tape up) (at + bytesBehind tape up) cell (closed tape up (at + bytesBehind tape up) (cell - up))
+  unfolding bytesAll count sizes
   shut (owed (more x ks) h l d t) z u = absurd (omega (arith, h .counted))
-  shut {up} {n} {pos} {cell} {tape} (owed none h l d t) z u =
-      let e : endOf tape up pos none ≡ pos + bytesBehind tape up = omega arith in
+  shut {up} {n} {at} {cell} {tape} (owed none h l d t) z u =
+      let e : endOf tape up at none ≡ at + bytesBehind tape up = omega arith in
       let c : cell + 0 ≡ cell = omega arith in
       let k : cell + 0 - up ≡ cell - up = omega arith in
-      let w : tapeOf tape up pos cell none ≡ closed tape up (pos + bytesBehind tape up) (cell - up) = rw (e, k) in
+      let w : tapeOf tape up at cell none ≡ closed tape up (at + bytesBehind tape up) (cell - up) = rw (wordsAll-none, e, k) in
       (d u, moved refl refl e c w (t u))
 
-  pub child : {up n pos cell : ℕ} {tape : List ℕ} → length b ≤ 16777216 → Owed b final up n pos cell tape → ¬ (n ≡ 0) → Child b final up n pos cell tape
-  unfolding bytesAll count sizes wordsAll
+  pub child : {up n at cell : ℕ} {tape : List ℕ} → length b ≤ cap.input → Owed b final up n at cell tape → ¬ (n ≡ 0) → Child b final up n at cell tape
+  unfolding bytesAll count sizes
   child s (owed none h l d t) z = absurd (z (sym (h .counted)))
-  child {up} {n} {pos} {cell} {tape} s (owed (more x ks) h l d t) z = go (h .laid)
+  child {up} {n} {at} {cell} {tape} s (owed (more x ks) h l d t) z = go (h .laid)
     where
-      go : AllLaid (more x ks) → Child b final up n pos cell tape
+      go : AllLaid (more x ks) → Child b final up n at cell tape
       go (one-more lx lks) =
-          let ws = words x pos up cell in
+          let ws = words x at up cell in
           let new = lay tape cell ws in
-          let pos' : ℕ = pos + length (bytes x) in
+          let at' : ℕ = at + length (bytes x) in
           let cell' : ℕ = cell + size x in
-          let rs = wordsAll ks pos' up cell' in
+          let rs = wordsAll ks at' up cell' in
           let len = length-append (bytes x) (bytesAll ks) in
           let own = size-own x in
           let below = h .below in
           let m : bytesBehind new up ≡ bytesBehind tape up = before-laid tape (cell * cellWords) ws (up * cellWords + 2) (omega arith) in
           let o : outer new up ≡ outer tape up = before-laid tape (cell * cellWords) ws (up * cellWords + 3) (omega arith) in
           let r : rest new up ≡ rest tape up = before-laid tape (cell * cellWords) ws (up * cellWords + 4) (omega arith) in
-          let e : endOf tape up pos (more x ks) ≡ endOf new up pos' ks = omega (arith, len, m) in
+          let e : endOf tape up at (more x ks) ≡ endOf new up at' ks = omega (arith, len, m) in
           let c : cell + (size x + sizes ks) ≡ cell' + sizes ks = omega arith in
-          let i : cell * cellWords + length ws ≡ cell' * cellWords = omega (arith, words-length x pos up cell) in
-          let w : tapeOf tape up pos cell (more x ks) ≡ tapeOf new up pos' cell' ks =
-          ap (λ (y : List ℕ). closed y up (endOf tape up pos (more x ks)) (cell + (size x + sizes ks) - up)) (sets-append tape (cell * cellWords) ws rs)
+          let i : cell * cellWords + length ws ≡ cell' * cellWords = omega (arith, words-length x at up cell) in
+          let w : tapeOf tape up at cell (more x ks) ≡ tapeOf new up at' cell' ks =
+          ap (λ (y : List ℕ). closed y up (endOf tape up at (more x ks)) (cell + (size x + sizes ks) - up)) (ap (lay tape cell) (wordsAll-more x ks at up cell) ∙ sets-append tape (cell * cellWords) ws rs)
           ∙ rw (i, e, c) in
           record {
             tree = x;
             laid = lx;
-            stands = left b pos (bytes x) (bytesAll ks) (h .stands);
+            stands = left b at (bytes x) (bytesAll ks) (h .stands);
             short = s;
             some = omega (arith, h .inside, len, size-bytes x);
             few = omega (arith, h .counted, h .inside, count-sizes ks, sizes-bytes ks, len, size-bytes x);
@@ -170,11 +171,11 @@ module _ {b final : List ℕ} where
             below = below;
             later = h .later;
             next =
-                owed {up = up} {n = n - 1} {pos = pos'} {cell = cell'} {tape = new} ks
+                owed {up = up} {n = n - 1} {at = at'} {cell = cell'} {tape = new} ks
                 (record {
                   laid = lks;
                   counted = omega (arith, h .counted);
-                  stands = right b pos (bytes x) (bytesAll ks) (h .stands);
+                  stands = right b at (bytes x) (bytesAll ks) (h .stands);
                   inside = omega (arith, h .inside, len, m);
                   fits = omega (arith, h .fits, length-sets tape (cell * cellWords) ws);
                   below = omega arith;
@@ -186,40 +187,40 @@ module _ {b final : List ℕ} where
           }
 
   -- a term's cell while it is open: its children are owed, and behind them what its parent has left
-  module _ {up pos cell n : ℕ} {mid new : List ℕ} {g : Shape} (tape : List ℕ) (h : length b ≤ 16777216) where
-    pub begins : (x : Tree) → Laid x → Stands b pos (bytes x) → (cell + size x) * cellWords ≤ length tape → cell ≤ pos →
-        g ≡ shapeAt b pos → mid ≡ opened tape cell (getD b pos 0) pos up → new ≡ closed mid cell (g .more) n →
-        (cell ≡ 0 → lay tape cell (words x pos up cell) ≡ final) →
+  module _ {up at cell n : ℕ} {mid new : List ℕ} {g : Shape} (tape : List ℕ) (h : length b ≤ cap.input) where
+    pub begins : (x : Tree) → Laid x → Stands b at (bytes x) → (cell + size x) * cellWords ≤ length tape → cell ≤ at →
+        g ≡ shapeAt b at → mid ≡ opened tape cell (getD b at 0) at up → new ≡ closed mid cell (g .back) n →
+        (cell ≡ 0 → lay tape cell (words x at up cell) ≡ final) →
         (¬ (cell ≡ 0) → up < cell) →
-        (¬ (cell ≡ 0) → Owed b final up n (pos + length (bytes x)) (cell + size x) (lay tape cell (words x pos up cell))) →
+        (¬ (cell ≡ 0) → Owed b final up n (at + length (bytes x)) (cell + size x) (lay tape cell (words x at up cell))) →
         Owed b final cell (g .kids) (g .from) (cell + 1) new
-    unfolding bytes size words
+    unfolding bytes size
     begins (node tag front ks back) l s f k e o v at-root below inside =
         let x = node tag front ks back in
-        let q : g ≡ shapeOf x pos = e ∙ shape-is b pos x h l s in
-        let from : ℕ = pos + 1 + length front in
-        let now = closed (opened tape cell tag pos up) cell (length back) n in
-        let d : now ≡ new = sym (v ∙ rw (o, byte b pos tag _ s, q)) in
+        let q : g ≡ shapeOf x at = e ∙ shape-is b at x h l s in
+        let from : ℕ = at + 1 + length front in
+        let now = closed (opened tape cell tag at up) cell (length back) n in
+        let d : now ≡ new = sym (v ∙ rw (o, byte b at tag _ s, q)) in
         let len = length-append front (bytesAll ks ++ back) in
         let len' = length-append (bytesAll ks) back in
-        let open-length = length-opened tape cell tag pos up in
+        let open-length = length-opened tape cell tag at up in
         let i = s .inside in
-        let m : bytesBehind now cell ≡ length back = end-read (opened tape cell tag pos up) cell (length back) n (omega arith) in
-        let u : outer now cell ≡ up = parent-read tape cell tag pos up (length back) n (omega arith) in
-        let r : rest now cell ≡ n = size-read (opened tape cell tag pos up) cell (length back) n (omega arith) in
+        let m : bytesBehind now cell ≡ length back = end-read (opened tape cell tag at up) cell (length back) n (omega arith) in
+        let u : outer now cell ≡ up = parent-read tape cell tag at up (length back) n (omega arith) in
+        let r : rest now cell ≡ n = size-read (opened tape cell tag at up) cell (length back) n (omega arith) in
         let ws = wordsAll ks from cell (cell + 1) in
-        let p : endOf now cell from ks ≡ pos + length (bytes x) = omega (arith, m, len, len') in
+        let p : endOf now cell from ks ≡ at + length (bytes x) = omega (arith, m, len, len') in
         let c : cell + 1 + sizes ks ≡ cell + size x = omega arith in
         let z : cell + 1 + sizes ks - cell ≡ suc (sizes ks) = omega arith in
-        let w : tapeOf now cell from (cell + 1) ks ≡ lay tape cell (words x pos up cell) =
-        closed-again (opened tape cell tag pos up) cell (length back) n ws _ _ ∙ rw (p, z) (cell-closed tape cell tag pos (pos + length (bytes x)) up (suc (sizes ks)) ws) in
+        let w : tapeOf now cell from (cell + 1) ks ≡ lay tape cell (words x at up cell) =
+        closed-again (opened tape cell tag at up) cell (length back) n ws _ _ ∙ rw (words-node, p, z) (cell-closed tape cell tag at (at + length (bytes x)) up (suc (sizes ks)) ws) in
         let here : Here b cell (count ks) from (cell + 1) now ks =
         record {
           laid = kids-laid l;
           counted = refl;
-          stands = left b from (bytesAll ks) back (right b (pos + 1) front (bytesAll ks ++ back) (behind b pos tag (front ++ (bytesAll ks ++ back)) s));
+          stands = left b from (bytesAll ks) back (right b (at + 1) front (bytesAll ks ++ back) (behind b at tag (front ++ (bytesAll ks ++ back)) s));
           inside = omega (arith, p);
-          fits = omega (arith, length-closed (opened tape cell tag pos up) cell (length back) n);
+          fits = omega (arith, length-closed (opened tape cell tag at up) cell (length back) n);
           below = omega arith;
           later = omega arith;
         } in
@@ -227,13 +228,13 @@ module _ {b final : List ℕ} where
         (owed ks here (λ y. w ∙ at-root y) (λ y. rw u (below y)) (λ y. moved (sym u) (sym r) (sym p) (sym c) (sym w) (inside y)))
 
 -- the short way tells the shape
-pub short-shape : (b : List ℕ) (pos : ℕ) {r : ℕ} → r ≡ shortAt b pos → ¬ (r ≡ 0) → ends r ≡ shapeAt b pos
-short-shape b pos {r} e h = ap ends e ∙ sym (short-is b pos (λ z. h (e ∙ z)))
+pub short-shape : (b : List ℕ) (at : ℕ) {r : ℕ} → r ≡ shortAt b at → ¬ (r ≡ 0) → ends r ≡ shapeAt b at
+short-shape b at {r} e h = ap ends e ∙ sym (short-is b at (λ z. h (e ∙ z)))
 
 -- and so does the tag of a small integer
-pub small-shape : (b : List ℕ) (pos : ℕ) → pos < length b → length b ≤ 16777216 → getD b pos 0 ≡ 97 → ends (pos + 2) ≡ shapeAt b pos
+pub small-shape : (b : List ℕ) (at : ℕ) → at < length b → length b ≤ cap.input → getD b at 0 ≡ 97 → ends (at + 2) ≡ shapeAt b at
 unfolding shapeBy
-small-shape b pos h l e = by-tag b pos 97 h l e
+small-shape b at h l e = by-tag b at 97 h l e
 
 -- no children, no bytes behind them
 bare : {tag : ℕ} {front back : List ℕ} → Laid (node tag front none back) → back ≡ []
@@ -242,31 +243,31 @@ bare {back = []} l = refl
 bare {back = x ∷ k} l = absurd (omega (arith, ap count (one-leaf l (λ e. omega (arith, ap (length {A = ℕ}) e)) .is)))
 
 -- what the bytes of a term say of it
-pub shaped : {b : List ℕ} {pos : ℕ} {g : Shape} → length b ≤ 16777216 → (t : Tree) → Laid t → Stands b pos (bytes t) → g ≡ shapeAt b pos → Shaped b pos g
+pub shaped : {b : List ℕ} {at : ℕ} {g : Shape} → length b ≤ cap.input → (t : Tree) → Laid t → Stands b at (bytes t) → g ≡ shapeAt b at → Shaped b at g
 unfolding bytes
-shaped {b} {pos} {g} h (node tag front ks back) l s e =
-    let q : g ≡ shapeOf (node tag front ks back) pos = e ∙ shape-is b pos (node tag front ks back) h l s in
+shaped {b} {at} {g} h (node tag front ks back) l s e =
+    let q : g ≡ shapeOf (node tag front ks back) at = e ∙ shape-is b at (node tag front ks back) h l s in
     let i = s .inside in
     rw q (record { after = omega arith; inside = omega (arith, length-append front (bytesAll ks ++ back), length-append (bytesAll ks) back) })
 
 -- the loop: the tape that is wanted is what is owed
 
-pub record Going (b old : List ℕ) (up n pos cell : ℕ) (tape : List ℕ) : Type 0 where
-  pub short : length b ≤ 16777216
+pub record Going (b old : List ℕ) (up n at cell : ℕ) (tape : List ℕ) : Type 0 where
+  pub short : length b ≤ cap.input
   pub kept : length tape ≡ length old
   pub final : List ℕ
   pub is : Filled b old final
-  pub owes : Owed b final up n pos cell tape
+  pub owes : Owed b final up n at cell tape
 
 pub there : {b : List ℕ} {room : ℕ} → Good b room → (1 < length b) × (5 ≤ room)
 there q = (omega (arith, q .stands .inside, size-bytes (q .tree), size-own (q .tree)), omega (arith, q .fits, size-own (q .tree)))
 
 -- the root's cell is open: the words that are wanted lie over it, so that they are the same on the tape as it was
-module _ {b mid tape : List ℕ} {g : Shape} (old : List ℕ) (q : Good b (length old)) (e : g ≡ shapeAt b 1) (o : mid ≡ opened old 0 (getD b 1 0) 1 0) (v : tape ≡ closed mid 0 (g .more) 0) where
+module _ {b mid tape : List ℕ} {g : Shape} (old : List ℕ) (q : Good b (length old)) (e : g ≡ shapeAt b 1) (o : mid ≡ opened old 0 (getD b 1 0) 1 0) (v : tape ≡ closed mid 0 (g .back) 0) where
   over : (t : Tree) → lay tape 0 (words t 1 0 0) ≡ lay old 0 (words t 1 0 0)
   over t =
-      let root = cell (getD b 1 0) 1 (g .more) 0 0 in
-      let w : tape ≡ lay old 0 root = v ∙ rw o (cell-closed old 0 (getD b 1 0) 1 (g .more) 0 0 []) in
+      let root = cell (getD b 1 0) 1 (g .back) 0 0 in
+      let w : tape ≡ lay old 0 root = v ∙ rw o (cell-closed old 0 (getD b 1 0) 1 (g .back) 0 0 []) in
       let ws = words t 1 0 0 in
       ap (λ (z : List ℕ). lay z 0 ws) w ∙ written-over old 0 root ws (omega (arith, words-length t 1 0 0, size-own t))
 
@@ -286,35 +287,35 @@ module _ {b mid tape : List ℕ} {g : Shape} (old : List ℕ) (q : Good b (lengt
             (λ _. sym (over (q .tree))) (λ z. absurd (z refl)) (λ z. absurd (z refl));
       }
 
-module _ {b old : List ℕ} {up n pos cell : ℕ} {tape : List ℕ} (g : Going b old up n pos cell tape) where
-  pub here : Top b up pos cell tape
+module _ {b old : List ℕ} {up n at cell : ℕ} {tape : List ℕ} (g : Going b old up n at cell tape) where
+  pub here : Top b up at cell tape
   here = top (g .short) (g .owes)
 
-  pub first : ¬ (n ≡ 0) → Child b (g .final) up n pos cell tape
+  pub first : ¬ (n ≡ 0) → Child b (g .final) up n at cell tape
   first z = child (g .short) (g .owes) z
 
-module _ {b old : List ℕ} {up n pos cell : ℕ} {tape new : List ℕ} (g : Going b old up n pos cell tape) where
+module _ {b old : List ℕ} {up n at cell : ℕ} {tape new : List ℕ} (g : Going b old up n at cell tape) where
   -- a child without children is written
-  pub past : {e : ℕ} → ¬ (n ≡ 0) → ends e ≡ shapeAt b pos → new ≡ closed (opened tape cell (getD b pos 0) pos up) cell e 1 → length new ≡ length tape →
+  pub past : {e : ℕ} → ¬ (n ≡ 0) → ends e ≡ shapeAt b at → new ≡ closed (opened tape cell (getD b at 0) at up) cell e 1 → length new ≡ length tape →
       Going b old up (n - 1) e (cell + 1) new
-  unfolding bytes size count words
+  unfolding bytes size count
   past {e} z f v k =
       let x = first g z in
       record { short = g .short; kept = k ∙ g .kept; final = g .final; is = g .is; owes = go (x .tree) (x .laid) (x .stands) (x .next) }
     where
-      go : (t : Tree) → Laid t → Stands b pos (bytes t) → Owed b (g .final) up (n - 1) (pos + length (bytes t)) (cell + size t) (lay tape cell (words t pos up cell)) →
+      go : (t : Tree) → Laid t → Stands b at (bytes t) → Owed b (g .final) up (n - 1) (at + length (bytes t)) (cell + size t) (lay tape cell (words t at up cell)) →
           Owed b (g .final) up (n - 1) e (cell + 1) new
       go (node tag front (more t ts) back) l s o =
-          let q : ends e ≡ shapeOf (node tag front (more t ts) back) pos = f ∙ shape-is b pos (node tag front (more t ts) back) (g .short) l s in
+          let q : ends e ≡ shapeOf (node tag front (more t ts) back) at = f ∙ shape-is b at (node tag front (more t ts) back) (g .short) l s in
           absurd (omega (arith, ap (λ (y : Shape). y .kids) q))
       go (node tag front none back) l s o =
-          let q : ends e ≡ shapeOf (node tag front none back) pos = f ∙ shape-is b pos (node tag front none back) (g .short) l s in
-          let p : e ≡ pos + length (bytes (node tag front none back)) = ap (λ (y : Shape). y .from) q ∙ rw (bare l, append-nil front) (omega arith) in
-          let w : new ≡ lay tape cell (words (node tag front none back) pos up cell) = v ∙ rw (p, byte b pos tag _ s) (cell-closed tape cell tag pos _ up 1 []) in
+          let q : ends e ≡ shapeOf (node tag front none back) at = f ∙ shape-is b at (node tag front none back) (g .short) l s in
+          let p : e ≡ at + length (bytes (node tag front none back)) = ap (λ (y : Shape). y .from) q ∙ rw (bare l, append-nil front) (omega arith) in
+          let w : new ≡ lay tape cell (words (node tag front none back) at up cell) = v ∙ rw (words-node, wordsAll-none, p, byte b at tag _ s) (cell-closed tape cell tag at _ up 1 []) in
           moved refl refl (sym p) (omega arith) (sym w) o
 
   -- the cell of any other is open
-  pub into : {mid : List ℕ} {s : Shape} → ¬ (n ≡ 0) → s ≡ shapeAt b pos → mid ≡ opened tape cell (getD b pos 0) pos up → new ≡ closed mid cell (s .more) (n - 1) → length new ≡ length tape →
+  pub into : {mid : List ℕ} {s : Shape} → ¬ (n ≡ 0) → s ≡ shapeAt b at → mid ≡ opened tape cell (getD b at 0) at up → new ≡ closed mid cell (s .back) (n - 1) → length new ≡ length tape →
       Going b old cell (s .kids) (s .from) (cell + 1) new
   into z e o v k =
       let x = first g z in
@@ -327,8 +328,8 @@ module _ {b old : List ℕ} {up n pos cell : ℕ} {tape new : List ℕ} (g : Goi
       }
 
   -- a term whose children are written is closed
-  module _ (v : new ≡ closed tape up (pos + bytesBehind tape up) (cell - up)) (z : n ≡ 0) where
-    pub out : ¬ (up ≡ 0) → length new ≡ length tape → (outer tape up < up) × Going b old (outer tape up) (rest tape up) (pos + bytesBehind tape up) cell new
+  module _ (v : new ≡ closed tape up (at + bytesBehind tape up) (cell - up)) (z : n ≡ 0) where
+    pub out : ¬ (up ≡ 0) → length new ≡ length tape → (outer tape up < up) × Going b old (outer tape up) (rest tape up) (at + bytesBehind tape up) cell new
     out u k =
         let (a, o) = shut (g .owes) z u in
         (a, record { short = g .short; kept = k ∙ g .kept; final = g .final; is = g .is; owes = moved refl refl refl refl (sym v) o })

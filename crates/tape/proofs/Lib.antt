@@ -1,3 +1,4 @@
+pub mod Words
 pub mod Blocks
 pub mod Spans
 pub mod Stores
@@ -5,4 +6,3 @@ pub mod Filling
 pub mod Reading
 pub mod Accepts
 pub mod Examples
-pub mod Room

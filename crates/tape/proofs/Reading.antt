@@ -6,46 +6,45 @@ use mathlib.Core.List.{List, [], _∷_, _++_}
 use lib.ListN.{length, getD, drop}
 use lib.Seq.{take-length, sets-eq}
 use borrow.Author.Tests.{lt-ltb, le-ltb, eq-eqb, ne-eqb}
-use Rattle.rows.specs.Numbers as number
-use Rattle.terms.specs.declared.Answer.{Answer}
-use Rattle.terms.specs.Answer.{refusal, before, readAt}
-use Rattle.terms.proofs.Bounds.{bounded}
+use Rattle.numbers.specs.Caps as cap
+use Rattle.numbers.specs.Numbers as number
+use Rattle.reading.specs.declared.Answer.{Answer}
+use Rattle.reading.specs.declared.Cause.{Cause}
+use Rattle.reading.specs.declared.Cause.the-variants as cause
+use Rattle.reading.specs.declared.Start.the-variants as start
+use Rattle.reading.specs.Answer.{numberOf, refusal, early, starts, readAt}
+use Rattle.reading.proofs.Answers.{starts-on}
+use Rattle.reading.proofs.Bounds.{bounded}
 use Rattle.layouts.specs.Tree.{Tree, Stands, bytes, size}
-use Rattle.layouts.proofs.Accepts.{read-sound}
+use Rattle.accepts.proofs.Accepts.{read-sound}
 use Rattle.layouts.proofs.Shapes.{unique}
 use Rattle.tape.specs.Cells.{cellWords, words, taped}
-use Rattle.tape.specs.Fill.{Good, Filled, lay}
-use Rattle.tape.specs.Read.{judged, wholeFrom, readAll, Left}
-use Rattle.tape.proofs.Blocks.{words-length}
+use Rattle.tape.specs.Inner.Fill.{Good, Filled, lay}
+use Rattle.tape.specs.Read.{ended, wholeFrom, recordIn, readAll, TapeAfter, Promised}
+use Rattle.tape.proofs.Words.{words-length}
 
 module _ (b : List ℕ) (limit room : ℕ) where
-  pub read-none : limit ≡ 0 → readAll b limit room ≡ before number.Limit
+  pub read-no : {c : Cause} → starts limit (length b) ≡ start.No c → readAll b limit room ≡ early (numberOf c)
   unfolding readAll
-  read-none e = rw e
+  read-no e = rw e
 
-  module _ (h : ¬ (limit ≡ 0)) where
-    pub read-over : 64 < limit → readAll b limit room ≡ before number.Limit
+  module _ (h : ¬ (limit ≡ 0)) (k : limit ≤ cap.nesting) (l : length b ≤ cap.input) where
+    begins : readAll b limit room ≡ recordIn b limit room
     unfolding readAll
-    read-over k = rw (ne-eqb limit 0 h, lt-ltb 64 limit k)
+    begins = rw (starts-on limit (length b) h k l)
 
-    module _ (k : limit ≤ 64) where
-      pub read-long : 16777216 < length b → readAll b limit room ≡ before number.Long
-      unfolding readAll
-      read-long l = rw (ne-eqb limit 0 h, le-ltb 64 limit k, lt-ltb 16777216 (length b) l)
+    pub read-empty : length b ≡ 0 → readAll b limit room ≡ early number.Eof
+    unfolding recordIn
+    read-empty m = begins ∙ rw m
 
-      module _ (l : length b ≤ 16777216) where
-        pub read-empty : length b ≡ 0 → readAll b limit room ≡ before number.Eof
-        unfolding readAll
-        read-empty m = rw (ne-eqb limit 0 h, le-ltb 64 limit k, le-ltb 16777216 (length b) l, m)
+    module _ (m : ¬ (length b ≡ 0)) where
+      pub read-other : ¬ (getD b 0 0 ≡ 131) → readAll b limit room ≡ early number.Tag
+      unfolding recordIn
+      read-other n = begins ∙ rw (ne-eqb (length b) 0 m, ne-eqb (getD b 0 0) 131 n)
 
-        module _ (m : ¬ (length b ≡ 0)) where
-          pub read-other : ¬ (getD b 0 0 ≡ 131) → readAll b limit room ≡ before number.Tag
-          unfolding readAll
-          read-other n = rw (ne-eqb limit 0 h, le-ltb 64 limit k, le-ltb 16777216 (length b) l, ne-eqb (length b) 0 m, ne-eqb (getD b 0 0) 131 n)
-
-          pub read-on : getD b 0 0 ≡ 131 → readAll b limit room ≡ wholeFrom b 1 limit room
-          unfolding readAll
-          read-on n = rw (ne-eqb limit 0 h, le-ltb 64 limit k, le-ltb 16777216 (length b) l, ne-eqb (length b) 0 m, n)
+      pub read-on : getD b 0 0 ≡ 131 → readAll b limit room ≡ wholeFrom b 1 limit room
+      unfolding recordIn
+      read-on n = begins ∙ rw (ne-eqb (length b) 0 m, n)
 
 -- the term behind byte 131, by its answer
 module _ (b : List ℕ) (limit room : ℕ) {a : Answer} (e : a ≡ readAt b 1 limit) where
@@ -58,20 +57,20 @@ module _ (b : List ℕ) (limit room : ℕ) {a : Answer} (e : a ≡ readAt b 1 li
 
   module _ (h : a .number ≡ 0) where
     pub whole-trailing : a .end < length b → refusal number.Trailing (a .end) (length b - a .end) (a .begun) (a .deepest) [] ≡ wholeFrom b 1 limit room
-    unfolding wholeFrom judged
+    unfolding wholeFrom ended
     whole-trailing k = rw (← e, eq-eqb (a .number) 0 h, lt-ltb (a .end) (length b) k)
 
     module _ (k : length b ≤ a .end) where
       pub whole-room : room < cellWords * a .begun → refusal number.Room 0 (a .begun) (a .begun) (a .deepest) [] ≡ wholeFrom b 1 limit room
-      unfolding wholeFrom judged
+      unfolding wholeFrom ended
       whole-room l = rw (← e, eq-eqb (a .number) 0 h, le-ltb (a .end) (length b) k, lt-ltb room (cellWords * a .begun) l)
 
       pub whole-done : cellWords * a .begun ≤ room → a ≡ wholeFrom b 1 limit room
-      unfolding wholeFrom judged
+      unfolding wholeFrom ended
       whole-done l = rw (← e, eq-eqb (a .number) 0 h, le-ltb (a .end) (length b) k, le-ltb room (cellWords * a .begun) l)
 
     -- the term that was read
-    pub good : length b ≤ 16777216 → cellWords * a .begun ≤ room → Good b room
+    pub good : length b ≤ cap.input → cellWords * a .begun ≤ room → Good b room
     good k l =
         let f = read-sound b 1 limit (ap (λ (x : Answer). x .number) (sym e) ∙ h) in
         record {
@@ -83,7 +82,7 @@ module _ (b : List ℕ) (limit room : ℕ) {a : Answer} (e : a ≡ readAt b 1 li
         }
 
 -- a refused read leaves the tape
-pub left-alone : {b tape : List ℕ} {n : ℕ} → ¬ (n ≡ 0) → Left b n tape tape
+pub left-alone : {b tape : List ℕ} {n : ℕ} → ¬ (n ≡ 0) → TapeAfter b n tape tape
 left-alone h = record { refused = λ _. refl; done = λ e. absurd (h e) }
 
 pub behind-131 : {b : List ℕ} (t : Tree) → b ≡ 131 ∷ bytes t → Stands b 1 (bytes t)
@@ -98,7 +97,7 @@ laid-front t tape h =
     sets-eq (words t 1 0 0) tape 0 (omega arith) ∙ ap (λ (k : ℕ). words t 1 0 0 ++ drop k tape) z
 
 -- and a read that was Done has written its term's
-pub left-taped : {b old new : List ℕ} {n : ℕ} → n ≡ 0 → Good b (length old) → Filled b old new → Left b n old new
+pub left-taped : {b old new : List ℕ} {n : ℕ} → n ≡ 0 → Good b (length old) → Filled b old new → TapeAfter b n old new
 left-taped {b} {old} {new} z g f =
     record {
       refused = λ h. absurd (h z);
@@ -107,3 +106,18 @@ left-taped {b} {old} {new} z g f =
           let u : t ≡ g .tree = unique b 1 t (g .tree) (g .short) l (g .laid) s (g .stands) in
           f .same t l s ∙ laid-front t old (rw u (g .fits));
     }
+
+-- a call that meets the promise: refused before the term or behind it, or Done
+pub refuses : {b tape : List ℕ} {limit : ℕ} {r a : Answer} → r ≡ a → a ≡ readAll b limit (length tape) → ¬ (a .number ≡ 0) → Promised b limit r tape tape
+refuses e f h = record { answered = e ∙ f; left = left-alone (rw e h) }
+
+-- no cause has the number of Done
+pub numbered : (c : Cause) → ¬ (numberOf c ≡ 0)
+numbered cause.Eof e = omega arith
+numbered cause.Tag e = omega arith
+numbered cause.Trailing e = omega arith
+numbered cause.Room e = omega arith
+numbered cause.Long e = omega arith
+numbered cause.Kind e = omega arith
+numbered cause.Limit e = omega arith
+numbered cause.Absent e = omega arith

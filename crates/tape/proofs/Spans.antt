@@ -1,18 +1,20 @@
--- Of a tape that has a term's words at its front: the term's own span, the laws of its cells, and that each of them is the cell of a
--- whole term of the input. The cells are a block (Blocks.antt), and its laws give those of the tape. Assumes nothing.
-use Prim.Native.Nat.{ℕ, _+_, _*_, _≤_, _<_}
+-- Of a tape that has a term's words at its front: the term's own span, the laws of its cells, and that they are the cells of the term's
+-- terms in pre-order, each a whole term of the input. The cells are a block (Blocks.antt), and its laws give those of the tape. Assumes nothing.
+use Prim.Native.Nat.{ℕ, zero, suc, _+_, _*_, _≤_, _<_}
 use native.Mathlib.Omega.{arith}
-use mathlib.Core.Path.{_≡_, refl}
+use mathlib.Core.Path.{_≡_, refl, sym, _∙_}
 use mathlib.Core.Logic.{_⊎_, inl, inr, ⊎-elim}
-use mathlib.Core.List.{List, _++_}
-use lib.ListN.{length}
-use Rattle.layouts.specs.Tree.{Tree, Forest, Stands, node, none, more, bytes, bytesAll, size, sizes}
-use Rattle.layouts.specs.Layout.{Laid, AllLaid, one-more}
-use Rattle.layouts.proofs.Stands.{left, right, behind}
-use Rattle.layouts.proofs.Shapes.{kids-laid}
-use Rattle.tape.specs.Cells.{cellWords, words, wordsAll}
-use Rattle.tape.specs.Spans.{startAt, endAt, parentAt, sizeAt, Inside, Nested, IsTerm}
-use Rattle.tape.proofs.Blocks.{Block, block, own, kids, first, others, by-place, from}
+use mathlib.Core.Option.{some}
+use mathlib.Core.List.{List, [], _∷_, flatMap}
+use lib.ListN.{length, getElem?}
+use Rattle.layouts.specs.Tree.{Tree, Stands, bytes, size}
+use Rattle.layouts.specs.Layout.{Laid}
+use Rattle.layouts.specs.Nodes.{Node, nodes}
+use Rattle.layouts.proofs.Stands.{left, right}
+use Rattle.layouts.proofs.Nodes.{nodes-length, is-in, lies}
+use Rattle.tape.specs.Cells.{cellWords, cellOf, words}
+use Rattle.tape.specs.Spans.{startAt, endAt, parentAt, sizeAt, Inside, Nested, OnePerTerm}
+use Rattle.tape.proofs.Blocks.{Block, block, cell-words, own, by-place, from}
 
 -- the term starts behind byte 131
 pub whole : (t : Tree) (tape : List ℕ) → Stands tape 0 (words t 1 0 0) → (startAt tape 0 ≡ 1) × (endAt tape 0 ≡ 1 + length (bytes t))
@@ -69,28 +71,29 @@ nested t tape s =
     let e : ℕ = 1 + length (bytes t) in
     laws tape (size t) 1 e (block tape t 1 0 0 (size t) e (omega arith) (omega arith) (omega arith) refl s) (o .parent)
 
--- each cell is a term: a term's own, and those of its children
-module _ (tape b : List ℕ) where
-  mutual
-    unfolding bytes size
+-- where the cells of a row stand from c on, each has its number in the row, counted from c
+at-number : (tape : List ℕ) (row : List Node) (c : ℕ) → Stands tape (cellWords * c) (flatMap cellOf row) → (i k : ℕ) → i < length row → k ≡ c + i →
+    (n : Node) × (getElem? row i ≡ some n) × Stands tape (cellWords * k) (cellOf n)
+unfolding flatMap
+at-number tape [] c s i k h e = absurd (omega arith)
+at-number tape (n ∷ row) c s zero k h e =
+    let f : k ≡ c = omega arith in
+    (n, refl, rw f (left tape (cellWords * c) (cellOf n) (flatMap cellOf row) s))
+at-number tape (n ∷ row) c s (suc i) k h e =
+    let f : cellWords * c + cellWords ≡ cellWords * (c + 1) = omega arith in
+    at-number tape row (c + 1) (rw f at (right tape (cellWords * c) (cellOf n) (flatMap cellOf row) s)) i k (omega arith) (omega arith)
 
-    term : (t : Tree) (p up c : ℕ) → Laid t → Stands b p (bytes t) → Stands tape (cellWords * c) (words t p up c) →
-        (i : ℕ) → c ≤ i → i < c + size t → IsTerm tape b i
-    term (node tag front ts back) p up c l x s =
-        let t : Tree = node tag front ts back in
-        let o = own tape t p up c s in
-        let y = behind b p tag (front ++ (bytesAll ts ++ back)) x in
-        let z = left b (p + 1 + length front) (bytesAll ts) back (right b (p + 1) front (bytesAll ts ++ back) y) in
-        from (λ (i : ℕ). i < c + size t → IsTerm tape b i) c
-        (λ h. record { tree = t; laid = l; stands = rw (o .start) x; tag = o .tag; end = rw (o .start) (o .end); size = o .counted })
-        (λ i h k. terms ts (p + 1 + length front) c (c + 1) (kids-laid l) z (kids tape tag front ts back p up c s) i (omega arith) (omega arith))
-
-    terms : (ts : Forest) (p up c : ℕ) → AllLaid ts → Stands b p (bytesAll ts) → Stands tape (cellWords * c) (wordsAll ts p up c) →
-        (i : ℕ) → c ≤ i → i < c + sizes ts → IsTerm tape b i
-    terms none p up c l x s i h k = absurd (omega arith)
-    terms (more t ts) p up c (one-more l ls) x s i h k =
-        by-place i (c + size t) (λ m. term t p up c l (left b p (bytes t) (bytesAll ts) x) (first tape t ts p up c s) i h m)
-        (λ m. terms ts (p + length (bytes t)) up (c + size t) ls (right b p (bytes t) (bytesAll ts) x) (others tape t ts p up c s) i m (omega arith))
-
-pub is-term : (t : Tree) (b tape : List ℕ) → Laid t → Stands b 1 (bytes t) → Stands tape 0 (words t 1 0 0) → (i : ℕ) → i < size t → IsTerm tape b i
-is-term t b tape l x s i h = term tape b t 1 0 0 l x s i (omega arith) (omega arith)
+-- of a term that stands behind byte 131, with its words at the tape's front
+module _ (t : Tree) (b tape : List ℕ) (l : Laid t) (x : Stands b 1 (bytes t)) (s : Stands tape 0 (words t 1 0 0)) where
+  -- each cell is that of the term with its number in pre-order
+  pub one-per-term : {n : ℕ} → n ≡ size t → OnePerTerm tape b t n
+  unfolding words
+  one-per-term e =
+      let row = nodes t 1 0 0 in
+      let len = nodes-length t 1 0 0 in
+      record {
+        as-many = len ∙ sym e;
+        each = λ i h.
+            let (m, k, c) = at-number tape row 0 s i i (omega arith) (omega arith) in
+            record { node = m; numbered = k; lies = lies b t 1 0 0 l x (is-in row i k); cell = c };
+      }

@@ -1,4 +1,4 @@
 pub mod Cells
 pub mod Spans
 pub mod Read
-pub mod Fill
+pub mod Inner

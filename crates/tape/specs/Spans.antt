@@ -1,12 +1,14 @@
--- What the words of a tape say of each other, as they lie in the lent run: the third demand, for whoever reads a tape by index.
+-- What the words of a tape say, as they lie in the lent run: the third demand, for whoever reads a tape by index.
 use Prim.Native.Nat.{ℕ, _+_, _*_, _≤_, _<_}
 use mathlib.Core.Path.{_≡_}
 use mathlib.Core.Logic.{_⊎_, _↔_}
+use mathlib.Core.Option.{some}
 use mathlib.Core.List.{List}
-use lib.ListN.{length, getD}
+use lib.ListN.{length, getD, getElem?}
 use Rattle.layouts.specs.Tree.{Tree, Stands, bytes, size, tagOf}
 use Rattle.layouts.specs.Layout.{Laid}
-use Rattle.tape.specs.Cells.{cellWords}
+use Rattle.layouts.specs.Nodes.{Node, Lies, nodes}
+use Rattle.tape.specs.Cells.{cellWords, cellOf}
 
 module _ (tape : List ℕ) where
   -- word k of cell i
@@ -48,11 +50,15 @@ module _ (tape : List ℕ) where
     pub parent : (j : ℕ) → 0 < j → j < n → (parentAt j < j) × Inside (parentAt j) j
     pub innermost : (i j : ℕ) → i < n → j < n → ¬ (i ≡ j) → Inside i j → Inside i (parentAt j)
 
-  -- cell i is the cell of a whole term of b
-  pub record IsTerm (b : List ℕ) (i : ℕ) : Type 0 where
-    pub tree : Tree
-    pub laid : Laid tree
-    pub stands : Stands b (startAt i) (bytes tree)
-    pub tag : tagAt i ≡ tagOf tree
-    pub end : endAt i ≡ startAt i + length (bytes tree)
-    pub size : sizeAt i ≡ size tree
+  -- cell i is the cell of number i of a row of terms, a term of b that lies there
+  pub record IsNode (b : List ℕ) (row : List Node) (i : ℕ) : Type 0 where
+    pub node : Node
+    pub numbered : getElem? row i ≡ some node
+    pub lies : Lies b node
+    pub cell : Stands tape (cellWords * i) (cellOf node)
+
+  -- "one cell per term": n cells, which are those of the terms of t in pre-order, t being the term behind byte 131 of the record b.
+  -- "The root's parent is 0"
+  pub record OnePerTerm (b : List ℕ) (t : Tree) (n : ℕ) : Type 0 where
+    pub as-many : length (nodes t 1 0 0) ≡ n
+    pub each : (i : ℕ) → i < n → IsNode b (nodes t 1 0 0) i

@@ -3,56 +3,53 @@
 // It stands over terms, which reads the record and judges it, and over layouts, which says where the children of a good term lie. So the
 // tape is written in a second pass, when it is known that the record is good and that there is room for it: nothing is judged twice, and
 // a refused read has written nothing.
-use terms::Answer;
+use reading::Answer;
+use reading::Cause;
+use reading::Start;
 ghost use mathlib.Core.Path.{_≡_};
 ghost use Prim.Native.Nat.{_+_, _*_, _≤_};
-ghost use lib.ListN.{length, getD};
-ghost use Rattle.tape.specs.Read.{wholeFrom, readAll, Left};
-ghost use Rattle.tape.specs.Fill.{opened, closed, Good, Filled};
+ghost use lib.ListN.{length};
+ghost use Rattle.numbers.specs.Caps as cap;
+ghost use Rattle.tape.specs.Cells.{cellWords};
+ghost use Rattle.tape.specs.Read.{Promised};
+ghost use Rattle.tape.specs.Inner.Fill.{opened, closed, Good, Filled};
 
 // "five to a cell": the words of one.
-const CELL: usize = 5;
+pub const CELL: usize = 5;
 
 // Reads a record, byte 131 and one term to the input's end, nested at most `limit` deep, and writes its tape, five words to a term: tag,
 // start, end, the parent's cell, the cells in its subtree. Refused: Limit, Long, then as reading refuses, then Trailing, then Room with the
 // cells needed. Only a Done read writes; words behind the last cell stay.
 pub fn read(b: &[u8], limit: usize, tape: &mut [u32]) -> Answer
-    ensures { λ r. ⌜ r ≡ readAll (now (b .entry)) limit (length (now (tape .entry))) ⌝ }
-    ensures { λ r. ⌜ Left (now (b .entry)) (r .number) (now (tape .entry)) (now (tape .exit)) ⌝ }
+    ensures { λ r. ⌜ Promised (now (b .entry)) limit r (now (tape .entry)) (now (tape .exit)) ⌝ }
 {
-    if limit == 0 {
-        return terms::refusal(rows::LIMIT, 0, 0, 0, 0);
+    let start = reading::starts(limit, b.len());
+    match start {
+        Start::Reads => record(b, limit, tape),
+        Start::No(cause) => reading::refusal(cause, 0, 0, 0, 0),
     }
-    if 64 < limit {
-        return terms::refusal(rows::LIMIT, 0, 0, 0, 0);
-    }
-    if 16777216 < b.len() {
-        return terms::refusal(rows::LONG, 0, 0, 0, 0);
-    }
-    if b.len() == 0 {
-        return terms::refusal(rows::EOF, 0, 0, 0, 0);
-    }
-    if b[0] != 131 {
-        return terms::refusal(rows::TAG, 0, 0, 0, 0);
-    }
-    whole(b, limit, tape)
 }
 
-// The term behind byte 131, to the input's end.
-fn whole(b: &[u8], limit: usize, tape: &mut [u32]) -> Answer
-    requires { ⌜ (1 ≤ limit) × ((limit ≤ 64) × ((1 ≤ length (now b)) × ((length (now b) ≤ 16777216) × (getD (now b) 0 0 ≡ 131)))) ⌝ }
-    ensures { λ r. ⌜ r ≡ wholeFrom (now (b .entry)) 1 limit (length (now (tape .entry))) ⌝ }
-    ensures { λ r. ⌜ Left (now (b .entry)) (r .number) (now (tape .entry)) (now (tape .exit)) ⌝ }
+// The same, where the limit and the input's length are well.
+fn record(b: &[u8], limit: usize, tape: &mut [u32]) -> Answer
+    requires { ⌜ (1 ≤ limit) × ((limit ≤ cap.nesting) × (length (now b) ≤ cap.input)) ⌝ }
+    ensures { λ r. ⌜ Promised (now (b .entry)) limit r (now (tape .entry)) (now (tape .exit)) ⌝ }
 {
+    if b.len() == 0 {
+        return reading::refusal(Cause::Eof, 0, 0, 0, 0);
+    }
+    if b[0] != 131 {
+        return reading::refusal(Cause::Tag, 0, 0, 0, 0);
+    }
     let a = terms::read(b, 1, limit);
-    if a.number != 0 {
+    if a.number != numbers::DONE {
         return a;
     }
     let end = a.end;
     let begun = a.begun;
     if end < b.len() {
-        return terms::refusal(
-            rows::TRAILING,
+        return reading::refusal(
+            Cause::Trailing,
             end,
             (b.len() - end) as u64,
             begun,
@@ -60,7 +57,7 @@ fn whole(b: &[u8], limit: usize, tape: &mut [u32]) -> Answer
         );
     }
     if tape.len() < CELL * begun {
-        return terms::refusal(rows::ROOM, 0, begun as u64, begun, a.deepest);
+        return reading::refusal(Cause::Room, 0, begun as u64, begun, a.deepest);
     }
     fill(b, tape);
     a
@@ -76,8 +73,8 @@ fn fill(b: &[u8], tape: &mut [u32])
 {
     begin(tape, 0, b[1], 1, 0);
     let s = layouts::shape_at(b, 1);
-    finish(tape, 0, s.more, 0);
-    let mut pos = s.from;
+    finish(tape, 0, s.back, 0);
+    let mut at = s.from;
     let mut left = s.kids;
     let mut cell = 1;
     let mut up = 0;
@@ -87,32 +84,32 @@ fn fill(b: &[u8], tape: &mut [u32])
             let more = tape[i + 2] as usize;
             let outer = tape[i + 3] as usize;
             left = tape[i + 4] as usize;
-            finish(tape, up, pos + more, cell - up);
+            finish(tape, up, at + more, cell - up);
             if up == 0 {
                 return;
             }
-            pos += more;
+            at += more;
             up = outer;
             continue;
         }
         left -= 1;
-        if b[pos] == 97 {
-            leaf(tape, cell, 97, pos, pos + 2, up);
-            pos += 2;
+        if b[at] == 97 {
+            leaf_cell(tape, cell, 97, at, at + 2, up);
+            at += 2;
             cell += 1;
             continue;
         }
-        let end = layouts::short_at(b, pos);
+        let end = layouts::short_at(b, at);
         if end != 0 {
-            leaf(tape, cell, b[pos], pos, end, up);
-            pos = end;
+            leaf_cell(tape, cell, b[at], at, end, up);
+            at = end;
             cell += 1;
             continue;
         }
-        begin(tape, cell, b[pos], pos, up);
-        let s = layouts::inner_at(b, pos);
-        finish(tape, cell, s.more, left);
-        pos = s.from;
+        begin(tape, cell, b[at], at, up);
+        let s = layouts::inner_at(b, at);
+        finish(tape, cell, s.back, left);
+        at = s.from;
         left = s.kids;
         up = cell;
         cell += 1;
@@ -120,10 +117,10 @@ fn fill(b: &[u8], tape: &mut [u32])
 }
 
 // The cell of a term without children, its words in their order: so they take the least time.
-fn leaf(tape: &mut [u32], cell: usize, tag: u8, start: usize, end: usize, up: usize)
-    requires { ⌜ (cell * 5 + 5 ≤ length (now tape)) × ((start ≤ 16777216) × ((end ≤ 16777216) × (up ≤ 16777216))) ⌝ }
-    ensures { λ _. ⌜ now (tape .exit) ≡ closed (opened (now (tape .entry)) cell tag start up) cell end 1 ⌝ }
-    ensures { λ _. ⌜ length (now (tape .exit)) ≡ length (now (tape .entry)) ⌝ }
+fn leaf_cell(tape: &mut [u32], cell: usize, tag: u8, start: usize, end: usize, up: usize)
+    requires { ⌜ (cell * cellWords + cellWords ≤ length (now tape)) × ((start ≤ cap.input) × ((end ≤ cap.input) × (up ≤ cap.input))) ⌝ }
+    ensures written { λ _. ⌜ now (tape .exit) ≡ closed (opened (now (tape .entry)) cell tag start up) cell end 1 ⌝ }
+    ensures as_long { λ _. ⌜ length (now (tape .exit)) ≡ length (now (tape .entry)) ⌝ }
 {
     let i = cell * CELL;
     tape[i] = tag as u32;
@@ -135,9 +132,9 @@ fn leaf(tape: &mut [u32], cell: usize, tag: u8, start: usize, end: usize, up: us
 
 // What is known of a cell before its children: its tag, its start and its parent's cell.
 fn begin(tape: &mut [u32], cell: usize, tag: u8, start: usize, up: usize)
-    requires { ⌜ (cell * 5 + 5 ≤ length (now tape)) × ((start ≤ 16777216) × (up ≤ 16777216)) ⌝ }
-    ensures { λ _. ⌜ now (tape .exit) ≡ opened (now (tape .entry)) cell tag start up ⌝ }
-    ensures { λ _. ⌜ length (now (tape .exit)) ≡ length (now (tape .entry)) ⌝ }
+    requires { ⌜ (cell * cellWords + cellWords ≤ length (now tape)) × ((start ≤ cap.input) × (up ≤ cap.input)) ⌝ }
+    ensures written { λ _. ⌜ now (tape .exit) ≡ opened (now (tape .entry)) cell tag start up ⌝ }
+    ensures as_long { λ _. ⌜ length (now (tape .exit)) ≡ length (now (tape .entry)) ⌝ }
 {
     let i = cell * CELL;
     tape[i] = tag as u32;
@@ -147,9 +144,9 @@ fn begin(tape: &mut [u32], cell: usize, tag: u8, start: usize, up: usize)
 
 // What is known of it after them: its end, and the cells in its subtree. Until then these words hold what `fill` keeps there.
 fn finish(tape: &mut [u32], cell: usize, end: usize, size: usize)
-    requires { ⌜ (cell * 5 + 5 ≤ length (now tape)) × ((end ≤ 16777216) × (size ≤ 16777216)) ⌝ }
-    ensures { λ _. ⌜ now (tape .exit) ≡ closed (now (tape .entry)) cell end size ⌝ }
-    ensures { λ _. ⌜ length (now (tape .exit)) ≡ length (now (tape .entry)) ⌝ }
+    requires { ⌜ (cell * cellWords + cellWords ≤ length (now tape)) × ((end ≤ cap.input) × (size ≤ cap.input)) ⌝ }
+    ensures written { λ _. ⌜ now (tape .exit) ≡ closed (now (tape .entry)) cell end size ⌝ }
+    ensures as_long { λ _. ⌜ length (now (tape .exit)) ≡ length (now (tape .entry)) ⌝ }
 {
     let i = cell * CELL;
     tape[i + 2] = end as u32;

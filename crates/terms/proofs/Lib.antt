@@ -1,11 +1,4 @@
 pub mod Laws
-pub mod Families
 pub mod Children
-pub mod Path
+pub mod Segments
 pub mod Shorts
-pub mod Keeps
-pub mod Floors
-pub mod Bounds
-pub mod Local
-pub mod Limits
-pub mod Examples

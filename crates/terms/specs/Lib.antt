@@ -1,5 +1,1 @@
-pub mod Reading
-pub mod Terms
-pub mod Answer
-pub mod Kids
-pub mod Told
+pub mod Inner

@@ -10,9 +10,10 @@ use borrow.Author.Tests.{lt-ltb, le-ltb, ltb-true, ltb-false}
 use lib.Dec.{ltb}
 use lib.ListN.{length, getD, drop, length-drop, length-append}
 use lib.Seq.{getD-drop}
-use Rattle.utf8.specs.Unicode.{scalar, encode, decode}
+use Rattle.utf8.specs.Unicode.{scalar, encode}
+use Rattle.utf8.specs.Inner.Find.{decode}
 use Rattle.utf8.specs.Good.{Begins}
-use Rattle.utf8.specs.Check.{Char, none, one, Six, bits, other}
+use Rattle.utf8.specs.Inner.Check.{Char, none, one, Six, bits, other}
 
 -- the four rows of Unicode's Table 3-6
 pub encode-1 : (c : ℕ) → c < 0x80 → encode c ≡ c ∷ []

@@ -12,7 +12,7 @@ use lib.Bits.{bitAnd, and-high, and-block, and-zero-l}
 use lib.ListN.{length, getD, take, drop, length-append, length-take, length-drop, take-append-drop}
 use lib.Pow.{pow-add}
 use lib.Seq.{length-take-le, take-add, drop-drop, drop-cons, take-take, getD-take, getD-drop}
-use Rattle.utf8.specs.Check.{Plain, Run, le, leAt}
+use Rattle.utf8.specs.Inner.Check.{Plain, Run, le, leAt}
 
 -- a list of bytes, and the same of its parts
 abbrev pub Bytes : List ℕ → Type 0

@@ -5,8 +5,8 @@ use mathlib.Core.Path.{_≡_, ap, sym, subst, _∙_}
 use mathlib.Core.List.{List}
 use lib.ListN.{length, getD, take, drop, length-drop}
 use lib.Seq.{length-take-le, getD-take, getD-drop}
-use Rattle.utf8.specs.Unicode.{goodBytes}
-use Rattle.utf8.specs.Check.{Plain}
+use Rattle.utf8.specs.Inner.Find.{goodBytes}
+use Rattle.utf8.specs.Inner.Check.{Plain}
 use Rattle.utf8.proofs.Runs.{none-yet, plain-to, at-end}
 use Rattle.utf8.proofs.Meaning.{good-bytes}
 use Rattle.utf8.proofs.Unique.{good-unique}

@@ -8,10 +8,11 @@ use borrow.Author.Tests.{eq-eqb, ne-eqb, eqb-true}
 use lib.Dec.{eqb}
 use lib.ListN.{length, getD, drop, length-drop, length-append}
 use lib.Seq.{drop-drop}
-use Rattle.utf8.specs.Unicode.{scalar, encode, decode, starts, charBytes, goodFrom, goodBytes}
+use Rattle.utf8.specs.Unicode.{scalar, encode}
+use Rattle.utf8.specs.Inner.Find.{decode, starts, charBytes, goodFrom, goodBytes}
 use Rattle.utf8.specs.Good.{spelled, Scalars, none, more, Begins, Spells, Good}
-use Rattle.utf8.specs.Check as char
-use Rattle.utf8.specs.Check.{Char}
+use Rattle.utf8.specs.Inner.Check as char
+use Rattle.utf8.specs.Inner.Check.{Char}
 use Rattle.utf8.proofs.Chars.{decoded, not-end}
 use Rattle.utf8.proofs.Runs.{none-yet, at-end}
 

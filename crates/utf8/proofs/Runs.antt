@@ -11,8 +11,8 @@ use lib.ListN.{length, getD, drop, length-drop, drop-of-length-le}
 use lib.Seq.{drop-drop}
 use Rattle.utf8.specs.Unicode.{scalar, encode}
 use Rattle.utf8.specs.Good.{spelled, Scalars, none, more, Begins, Spells}
-use Rattle.utf8.specs.Check as char
-use Rattle.utf8.specs.Check.{Plain, Char}
+use Rattle.utf8.specs.Inner.Check as char
+use Rattle.utf8.specs.Inner.Check.{Plain, Char}
 use Rattle.utf8.proofs.Chars.{is-one, not-end}
 
 spelled-snoc : (cs : List ℕ) (c : ℕ) → spelled (cs ++ (c ∷ [])) ≡ spelled cs ++ encode c

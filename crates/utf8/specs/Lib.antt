@@ -1,3 +1,3 @@
 pub mod Unicode
 pub mod Good
-pub mod Check
+pub mod Inner

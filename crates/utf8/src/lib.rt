@@ -8,8 +8,8 @@ ghost use mathlib.Core.Logic.{_↔_};
 ghost use mathlib.Core.Bool.{true};
 ghost use Prim.Native.Nat.{_+_, _^_, _<_, _≤_};
 ghost use lib.ListN.{length, getD, drop};
-ghost use Rattle.utf8.specs.Unicode.{goodBytes};
-ghost use Rattle.utf8.specs.Check.{Plain, Run, leAt, Char, Six};
+ghost use Rattle.utf8.specs.Inner.Find.{goodBytes};
+ghost use Rattle.utf8.specs.Inner.Check.{Plain, Run, leAt, Char, Six};
 
 // The bit that no byte of ASCII has, in each of eight bytes.
 const HIGH: u64 = 0x8080808080808080;

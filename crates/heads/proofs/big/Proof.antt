@@ -1,6 +1,6 @@
 -- `heads::big` meets its contract. Assumes nothing.
 use borrow.Author.Needs.{needs}
-use Rattle.heads.specs.Head.{big}
+use Rattle.heads.specs.Inner.Head.{big}
 use Rattle.heads.proofs.big.Statement.{statement}
 use Rattle.heads.proofs.big.Tie as tie
 

@@ -3,7 +3,7 @@ use Prim.Native.Nat.{ℕ}
 use mathlib.Core.Path.{ap, _∙_}
 use lib.Ieee.{Float, binary64, ofBits}
 use borrow.Author.Needs.{needs}
-use Rattle.heads.specs.Head.{double}
+use Rattle.heads.specs.Inner.Head.{double}
 use Rattle.heads.specs.declared.Value.the-variants as value
 use Rattle.heads.proofs.double.Statement.{statement}
 use Rattle.heads.proofs.double.Tie as tie

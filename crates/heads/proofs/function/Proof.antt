@@ -1,28 +1,29 @@
 -- `heads::function` meets its contract. Assumes nothing.
 use mathlib.Core.Path.{sym, _∙_}
 use borrow.Author.Needs.{needs}
-use Rattle.heads.specs.Head.{read, function}
+use Rattle.fields.specs.Field.{numberThen}
+use Rattle.heads.specs.Inner.Head.{function}
 use Rattle.heads.proofs.function.Statement.{statement}
 use Rattle.heads.proofs.function.Tie as tie
 
 returns : tie.Need-returns
-unfolding function read
+unfolding function numberThen
 returns c = rw (sym (c .before .before .be-u32 .ensures) ∙ c .enum-told .given .1)
 
 returns-2 : tie.Need-returns-2
-unfolding function read
+unfolding function numberThen
 returns-2 c = rw (sym (c .before .before .before .before .before .before .be-u32 .ensures) ∙ c .before .before .before .before .size .given .1, sym (c .before .before .be-u8 .ensures) ∙ c .enum-told2 .given .1)
 
 returns-3 : tie.Need-returns-3
-unfolding function read
+unfolding function numberThen
 returns-3 c = rw (sym (c .before .before .before .before .before .before .before .before .before .before .be-u32 .ensures) ∙ c .before .before .before .before .before .before .before .before .size .given .1, sym (c .before .before .before .before .before .before .be-u8 .ensures) ∙ c .before .before .before .before .arity .given .1, sym (c .before .before .be-u322 .ensures) ∙ c .enum-told3 .given .1)
 
 returns-4 : tie.Need-returns-4
-unfolding function read
+unfolding function numberThen
 returns-4 c = rw (sym (c .before .before .before .before .before .before .before .before .before .before .before .before .before .before .be-u32 .ensures) ∙ c .before .before .before .before .before .before .before .before .before .before .before .before .size .given .1, sym (c .before .before .before .before .before .before .before .before .before .before .be-u8 .ensures) ∙ c .before .before .before .before .before .before .before .before .arity .given .1, sym (c .before .before .before .before .before .before .be-u322 .ensures) ∙ c .before .before .before .before .index .given .1, sym (c .before .before .be-u323 .ensures) ∙ c .enum-told4 .given .1)
 
 returns-5 : tie.Need-returns-5
-unfolding function read
+unfolding function numberThen
 returns-5 c = rw (sym (c .before .before .before .before .before .before .before .before .before .before .before .before .before .before .before .be-u32 .ensures) ∙ c .before .before .before .before .before .before .before .before .before .before .before .before .before .size .given .1, sym (c .before .before .before .before .before .before .before .before .before .before .before .be-u8 .ensures) ∙ c .before .before .before .before .before .before .before .before .before .arity .given .1, sym (c .before .before .before .before .before .before .before .be-u322 .ensures) ∙ c .before .before .before .before .before .index .given .1, sym (c .before .before .before .be-u323 .ensures) ∙ c .before .free .given .1)
 
 pub function-spec : {M : Type 1} → statement M

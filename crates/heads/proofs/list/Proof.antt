@@ -1,23 +1,18 @@
 -- `heads::list` meets its contract. Assumes nothing.
-use native.Mathlib.Omega.{arith}
 use mathlib.Core.Path.{sym, _∙_}
 use borrow.Author.Needs.{needs}
-use borrow.Author.Tests.{le-leb, lt-leb}
-use Rattle.heads.specs.Head.{read, capped, list}
+use Rattle.rows.proofs.Laws.{counted-is, counted-no}
+use Rattle.heads.specs.Inner.Head.{list}
 use Rattle.heads.proofs.list.Statement.{statement}
 use Rattle.heads.proofs.list.Tie as tie
 
 returns : tie.Need-returns
-unfolding list read capped
-returns c = rw (sym (c .before .before .before .before .be-u32 .ensures) ∙ c .before .before .f .given .1, lt-leb (c .before .before .f .given .0 .0) 10000000 (omega arith))
+unfolding list
+returns c = sym (counted-is _ _ _ _ _ (sym (c .before .before .before .count .ensures) ∙ c .before .elements .given .1))
 
 returns-2 : tie.Need-returns-2
-unfolding list read capped
-returns-2 c = rw (sym (c .before .before .before .before .be-u32 .ensures) ∙ c .before .before .f .given .1, le-leb (c .before .before .f .given .0 .0) 10000000 (omega arith))
-
-returns-3 : tie.Need-returns-3
-unfolding list read
-returns-3 c = rw (sym (c .before .before .be-u32 .ensures) ∙ c .enum-told .given .1)
+unfolding list
+returns-2 c = sym (counted-no _ _ _ _ _ (sym (c .before .before .before .count .ensures) ∙ c .before .elements2 .given .1))
 
 pub list-spec : {M : Type 1} → statement M
 list-spec =
@@ -26,7 +21,6 @@ list-spec =
     (λ c. search needs)
     (λ c κs. search needs)
     (λ c. search needs)
-    returns
     (λ c. search needs)
-    returns-2
-    returns-3)
+    returns
+    returns-2)

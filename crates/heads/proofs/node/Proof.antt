@@ -1,10 +1,10 @@
--- `heads::node` meets its contract: a tag of an atom is read as a leaf. Assumes nothing.
+-- `heads::node` meets its contract: a tag of an atom is read as a rowValue. Assumes nothing.
 use native.Mathlib.Omega.{arith}
 use mathlib.Core.Path.{_∙_}
 use lib.ListN.{length, getD}
 use borrow.Author.Needs.{needs}
 use borrow.Author.Tests.{lt-ltb, le-ltb, ne-eqb}
-use Rattle.heads.specs.Head.{node}
+use Rattle.heads.specs.Inner.Head.{node}
 use Rattle.heads.proofs.node.Statement.{statement}
 use Rattle.heads.proofs.node.Tie as tie
 
@@ -14,15 +14,15 @@ returns c = rw (le-ltb (c .before .before .args .c) (length (c .before .before .
 
 returns-2 : tie.Need-returns-2
 unfolding node
-returns-2 c = c .leaf .ensures ∙ rw (lt-ltb (c .before .before .before .before .before .args .c) (length (c .before .before .before .before .before .args .b .now)) (omega arith), c .before .match .keys1)
+returns-2 c = c .row-value .ensures ∙ rw (lt-ltb (c .before .before .before .before .before .args .c) (length (c .before .before .before .before .before .args .b .now)) (omega arith), c .before .match .keys1)
 
 returns-3 : tie.Need-returns-3
 unfolding node
-returns-3 c = c .leaf2 .ensures ∙ rw (lt-ltb (c .before .before .before .before .before .args .c) (length (c .before .before .before .before .before .args .b .now)) (omega arith), c .before .match .keys2)
+returns-3 c = c .row-value2 .ensures ∙ rw (lt-ltb (c .before .before .before .before .before .args .c) (length (c .before .before .before .before .before .args .b .now)) (omega arith), c .before .match .keys2)
 
 returns-4 : tie.Need-returns-4
 unfolding node
-returns-4 c = c .leaf3 .ensures ∙ rw (lt-ltb (c .before .before .before .before .before .args .c) (length (c .before .before .before .before .before .args .b .now)) (omega arith), c .before .match .keys3)
+returns-4 c = c .row-value3 .ensures ∙ rw (lt-ltb (c .before .before .before .before .before .args .c) (length (c .before .before .before .before .before .args .b .now)) (omega arith), c .before .match .keys3)
 
 returns-5 : tie.Need-returns-5
 unfolding node

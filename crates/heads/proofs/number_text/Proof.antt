@@ -4,7 +4,7 @@ use lib.ListN.{drop}
 use borrow.Author.Needs.{needs}
 use Rattle.literal.specs.Trim.{trimmed}
 use Rattle.rows.proofs.Laws.{part}
-use Rattle.heads.specs.Head.{numberText}
+use Rattle.heads.specs.Inner.Head.{numberText}
 use Rattle.heads.specs.declared.Value.the-variants as value
 use Rattle.heads.proofs.number_text.Statement.{statement}
 use Rattle.heads.proofs.number_text.Tie as tie

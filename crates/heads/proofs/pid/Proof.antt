@@ -2,7 +2,7 @@
 use Prim.Native.Nat.{_+_}
 use mathlib.Core.Path.{ap, sym, subst, _∙_}
 use borrow.Author.Needs.{needs}
-use Rattle.heads.specs.Head.{named, pidNumbers, pid}
+use Rattle.heads.specs.Inner.Head.{named, pidNumbers, pid}
 use Rattle.heads.specs.declared.Value.{Value}
 use Rattle.heads.proofs.Laws.{not-named}
 use Rattle.heads.proofs.Runs.{Inside, node-inside}

@@ -3,7 +3,8 @@ use Prim.Native.Nat.{_+_}
 use mathlib.Core.Path.{ap, sym, subst, _∙_}
 use borrow.Author.Needs.{needs}
 use Rattle.fields.proofs.Inverse.{is-below}
-use Rattle.heads.specs.Head.{read, named, referenceNumbers, reference}
+use Rattle.fields.specs.Field.{numberThen}
+use Rattle.heads.specs.Inner.Head.{named, referenceNumbers, reference}
 use Rattle.heads.specs.declared.Value.{Value}
 use Rattle.heads.proofs.Laws.{not-named}
 use Rattle.heads.proofs.Runs.{Inside, node-inside}
@@ -11,18 +12,18 @@ use Rattle.heads.proofs.reference.Statement.{statement}
 use Rattle.heads.proofs.reference.Tie as tie
 
 returns : tie.Need-returns
-unfolding reference read
+unfolding reference numberThen
 returns c = rw (sym (c .before .before .be-u16 .ensures) ∙ c .enum-told .given .1)
 
 reference-numbers-requires : tie.Need-reference-numbers-requires
 reference-numbers-requires c κs = (subst (λ (v : Value). Inside (c .before .before .before .before .before .before .before .before .before .args .b .now) v) (sym (c .before .before .before .node .ensures) ∙ c .before .v .given .1) (node-inside _ _) .inside, is-below 2 _ _ (λ i. c .before .before .before .before .before .before .before .before .shared-slice-known .given i .fits) (sym (c .before .before .before .before .before .before .before .be-u16 .ensures) ∙ c .before .before .before .before .before .count .given .1))
 
 returns-2 : tie.Need-returns-2
-unfolding reference read named
+unfolding reference numberThen named
 returns-2 c = c .reference-numbers .ensures ∙ rw (sym (c .before .before .before .before .before .before .before .before .be-u16 .ensures) ∙ c .before .before .before .before .before .before .count .given .1, sym (c .before .before .before .before .node .ensures) ∙ c .before .before .v .given .1)
 
 returns-3 : tie.Need-returns-3
-unfolding reference read
+unfolding reference numberThen
 returns-3 c = not-named _ _ (c .match2 .keys2) ∙ ap (λ (v : Value). named v (referenceNumbers (c .before .before .before .before .before .before .before .args .b .now) (c .before .before .before .before .before .before .before .args .at + 3) (c .before .before .before .count .given .0 .0))) (c .before .node .ensures) ∙ rw (sym (c .before .before .before .before .before .be-u16 .ensures) ∙ c .before .before .before .count .given .1)
 
 pub reference-spec : {M : Type 1} → statement M

@@ -3,7 +3,7 @@ use Prim.Native.Nat.{ℕ}
 use mathlib.Core.Path.{ap, sym, _∙_}
 use borrow.Author.Needs.{needs}
 use borrow.Author.Tests.{ne-eqb}
-use Rattle.heads.specs.Head.{term}
+use Rattle.heads.specs.Inner.Head.{term}
 use Rattle.heads.proofs.term.Statement.{statement}
 use Rattle.heads.proofs.term.Tie as tie
 
@@ -45,7 +45,7 @@ returns-9 c = c .function .ensures ∙ ap (λ (t : ℕ). term (c .before .before
 
 returns-10 : tie.Need-returns-10
 unfolding term
-returns-10 c = c .leaf .ensures ∙ rw (ne-eqb (c .before .before .before .args .tag) 104 (c .before .match .rest .0 .0 .0 .0 .0 .0 .0 .0 .1), ne-eqb (c .before .before .before .args .tag) 105 (c .before .match .rest .0 .0 .0 .0 .0 .0 .0 .1), ne-eqb (c .before .before .before .args .tag) 108 (c .before .match .rest .0 .0 .0 .0 .0 .0 .1), ne-eqb (c .before .before .before .args .tag) 116 (c .before .match .rest .0 .0 .0 .0 .0 .1), ne-eqb (c .before .before .before .args .tag) 88 (c .before .match .rest .0 .0 .0 .0 .1), ne-eqb (c .before .before .before .args .tag) 90 (c .before .match .rest .0 .0 .0 .1), ne-eqb (c .before .before .before .args .tag) 120 (c .before .match .rest .0 .0 .1), ne-eqb (c .before .before .before .args .tag) 113 (c .before .match .rest .0 .1), ne-eqb (c .before .before .before .args .tag) 112 (c .before .match .rest .1))
+returns-10 c = c .row-value .ensures ∙ rw (ne-eqb (c .before .before .before .args .tag) 104 (c .before .match .rest .0 .0 .0 .0 .0 .0 .0 .0 .1), ne-eqb (c .before .before .before .args .tag) 105 (c .before .match .rest .0 .0 .0 .0 .0 .0 .0 .1), ne-eqb (c .before .before .before .args .tag) 108 (c .before .match .rest .0 .0 .0 .0 .0 .0 .1), ne-eqb (c .before .before .before .args .tag) 116 (c .before .match .rest .0 .0 .0 .0 .0 .1), ne-eqb (c .before .before .before .args .tag) 88 (c .before .match .rest .0 .0 .0 .0 .1), ne-eqb (c .before .before .before .args .tag) 90 (c .before .match .rest .0 .0 .0 .1), ne-eqb (c .before .before .before .args .tag) 120 (c .before .match .rest .0 .0 .1), ne-eqb (c .before .before .before .args .tag) 113 (c .before .match .rest .0 .1), ne-eqb (c .before .before .before .args .tag) 112 (c .before .match .rest .1))
 
 pub term-spec : {M : Type 1} → statement M
 term-spec =

@@ -2,16 +2,16 @@
 use mathlib.Core.Path.{refl, sym}
 use borrow.Author.Needs.{needs}
 use native.Mathlib.Omega.{arith}
-use Rattle.jig.specs.Shown.{segments, traced}
+use Rattle.jig.specs.Shown.{segments, pathWords}
 use Rattle.jig.proofs.answer.Statement.{statement}
 use Rattle.jig.proofs.answer.Tie as tie
 
 returns : tie.Need-returns
-unfolding traced
+unfolding pathWords
 returns c = (refl, c .trace .ensures)
 
 returns-2 : tie.Need-returns-2
-unfolding traced segments
+unfolding pathWords segments
 returns-2 c = (refl, rw (c .if1 .left))
 
 pub answer-spec : {M : Type 1} → statement M

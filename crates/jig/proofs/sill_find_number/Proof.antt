@@ -17,7 +17,7 @@ returns c =
     let a = c .before .before .before .before .before .args in
     record {
       answer = c .before .before .before .find-number .result;
-      looked = subst (λ (z : ℤ). Looked (a .b .now) (a .at) (a .limit) (number z) (c .before .before .before .find-number .result)) (toZ-ofZ {w = w64} (search needs)) (c .before .before .before .find-number .ensures);
+      promised = subst (λ (z : ℤ). Looked (a .b .now) (a .at) (a .limit) (number z) (c .before .before .before .find-number .result)) (toZ-ofZ {w = w64} (search needs)) (c .before .before .before .find-number .ensures);
       shows = c .answer .ensures .0;
       traces = c .answer .ensures .1;
     }

@@ -2,13 +2,13 @@
 use mathlib.Core.Path.{ap, _∙_}
 use borrow.Author.Needs.{needs}
 use Rattle.heads.specs.declared.Headed.{Headed}
-use Rattle.heads.specs.Head.{runOf}
-use Rattle.jig.specs.Heads.{placed}
+use Rattle.heads.specs.Run.{runOf}
+use Rattle.jig.specs.Heads.{partWords}
 use Rattle.jig.proofs.sill_part.Statement.{statement}
 use Rattle.jig.proofs.sill_part.Tie as tie
 
 returns : tie.Need-returns
-returns c = c .part .ensures ∙ ap (λ (h : Headed). placed (runOf (h .value))) (c .before .head .ensures)
+returns c = c .part .ensures ∙ ap (λ (h : Headed). partWords (runOf (h .value))) (c .before .head .ensures)
 
 pub sill-part-spec : {M : Type 1} → statement M
 sill-part-spec = tie.close (tie.spec (λ c κs. search needs) (λ c κs. search needs) returns)

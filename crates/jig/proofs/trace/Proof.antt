@@ -7,9 +7,9 @@ use native.Mathlib.Omega.{arith}
 use borrow.Author.Needs.{needs}
 use lib.ListN.{getD, set}
 use lib.Seq.{sets}
-use Rattle.terms.specs.declared.Kind.the-variants.{Tuple}
-use Rattle.terms.specs.declared.Segment.{Segment}
-use Rattle.terms.specs.Told.{kindNumber}
+use Rattle.reading.specs.declared.Kind.the-variants.{Tuple}
+use Rattle.reading.specs.declared.Segment.{Segment}
+use Rattle.reading.specs.Answer.{kindNumber}
 use Rattle.jig.specs.Shown.{segments}
 use Rattle.jig.proofs.trace.Statement.{statement}
 use Rattle.jig.proofs.trace.Tie as tie
@@ -40,7 +40,7 @@ loop-holds : tie.Need-loop-holds Inv-loop μ-loop
 loop-holds c = (omega arith, let all : c .args .n - 0 ≡ c .args .n = omega arith in rw all)
 
 loop-again : tie.Need-loop-again Inv-loop μ-loop
-loop-again c = (omega arith, one-more _ _ (c .before .before .before .before .args .n) (c .before .before .before .loop .i) _ (c .before .before .loop-test .taken) (c .kind .ensures) ∙ c .before .before .before .loop .inv .1)
+loop-again c = (omega arith, one-more _ _ (c .before .before .before .before .args .n) (c .before .before .before .loop .i) _ (c .before .before .loop-test .taken) (c .kind-number .ensures .0) ∙ c .before .before .before .loop .inv .1)
 
 returns : tie.Need-returns Inv-loop μ-loop
 returns c = no-more _ _ (c .before .before .args .n) (c .before .loop .i) (c .loop-test .left) ∙ c .before .loop .inv .1

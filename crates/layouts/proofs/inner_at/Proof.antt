@@ -2,7 +2,7 @@
 use native.Mathlib.Omega.{arith}
 use mathlib.Core.Path.{_∙_}
 use borrow.Author.Needs.{needs}
-use Rattle.layouts.specs.Shape.{shapeBy}
+use Rattle.layouts.specs.Inner.Shape.{shapeBy}
 use Rattle.layouts.proofs.Shapes.{by-tag, past, large}
 use Rattle.layouts.proofs.inner_at.Statement.{statement}
 use Rattle.layouts.proofs.inner_at.Tie as tie
@@ -15,15 +15,15 @@ returns-2 c = c .ends2 .ensures ∙ large _ _ (c .before .before .if1 .left) (c 
 
 returns-3 : tie.Need-returns-3
 unfolding shapeBy
-returns-3 c = rw (c .holds .ensures, c .before .one .ensures .0) (by-tag _ _ 104 (omega arith) (omega arith) (c .before .before .if3 .taken))
+returns-3 c = rw (c .inner .ensures, c .before .u8-at .ensures .0) (by-tag _ _ 104 (omega arith) (omega arith) (c .before .before .if3 .taken))
 
 returns-4 : tie.Need-returns-4
 unfolding shapeBy
-returns-4 c = rw (c .holds2 .ensures, c .before .four .ensures .0) (by-tag _ _ 108 (omega arith) (omega arith) (c .before .before .if4 .taken))
+returns-4 c = rw (c .inner2 .ensures, c .before .u32-at .ensures .0) (by-tag _ _ 108 (omega arith) (omega arith) (c .before .before .if4 .taken))
 
 returns-5 : tie.Need-returns-5
 unfolding shapeBy
-returns-5 c = rw (c .holds3 .ensures, c .before .four2 .ensures .0) (by-tag _ _ 116 (omega arith) (omega arith) (c .before .before .if5 .taken))
+returns-5 c = rw (c .inner3 .ensures, c .before .u32-at2 .ensures .0) (by-tag _ _ 116 (omega arith) (omega arith) (c .before .before .if5 .taken))
 
 pub inner-at-spec : {M : Type 1} → statement M
 inner-at-spec =

@@ -4,7 +4,7 @@ use mathlib.Core.Path.{refl, _∙_}
 use mathlib.Core.Logic.{⊎-elim, inl, inr}
 use borrow.Author.Tests.{ne-eqb}
 use borrow.Author.Needs.{needs}
-use Rattle.layouts.specs.Shape.{shapeBy}
+use Rattle.layouts.specs.Inner.Shape.{shapeBy}
 use Rattle.layouts.proofs.Shapes.{by-tag, past, large}
 use Rattle.layouts.proofs.shape_at.Statement.{statement}
 use Rattle.layouts.proofs.shape_at.Tie as tie
@@ -33,11 +33,11 @@ returns-6 c = c .ends6 .ensures ∙ by-tag _ _ 70 (omega arith) (omega arith) (c
 
 returns-7 : tie.Need-returns-7
 unfolding shapeBy
-returns-7 c = rw (c .ends7 .ensures, c .before .two .ensures .0) (⊎-elim (λ e. by-tag _ _ 100 (omega arith) (omega arith) e) (⊎-elim (λ e. by-tag _ _ 107 (omega arith) (omega arith) e) (λ e. by-tag _ _ 118 (omega arith) (omega arith) e)) (c .before .before .match .keys5))
+returns-7 c = rw (c .ends7 .ensures, c .before .u16-at .ensures .0) (⊎-elim (λ e. by-tag _ _ 100 (omega arith) (omega arith) e) (⊎-elim (λ e. by-tag _ _ 107 (omega arith) (omega arith) e) (λ e. by-tag _ _ 118 (omega arith) (omega arith) e)) (c .before .before .match .keys5))
 
 returns-8 : tie.Need-returns-8
 unfolding shapeBy
-returns-8 c = rw (c .ends8 .ensures, c .before .one .ensures .0) (by-tag _ _ 119 (omega arith) (omega arith) (c .before .before .match .keys6))
+returns-8 c = rw (c .ends8 .ensures, c .before .u8-at .ensures .0) (by-tag _ _ 119 (omega arith) (omega arith) (c .before .before .match .keys6))
 
 returns-9 : tie.Need-returns-9
 unfolding shapeBy
@@ -45,47 +45,47 @@ returns-9 c = c .ends9 .ensures ∙ by-tag _ _ 106 (omega arith) (omega arith) (
 
 returns-10 : tie.Need-returns-10
 unfolding shapeBy
-returns-10 c = rw (c .ends10 .ensures, c .before .four .ensures .0) (by-tag _ _ 109 (omega arith) (omega arith) (c .before .before .match .keys8))
+returns-10 c = rw (c .ends10 .ensures, c .before .u32-at .ensures .0) (by-tag _ _ 109 (omega arith) (omega arith) (c .before .before .match .keys8))
 
 returns-11 : tie.Need-returns-11
 unfolding shapeBy
-returns-11 c = rw (c .ends11 .ensures, c .before .four2 .ensures .0) (⊎-elim (λ e. by-tag _ _ 77 (omega arith) (omega arith) e) (λ e. by-tag _ _ 111 (omega arith) (omega arith) e) (c .before .before .match .keys9))
+returns-11 c = rw (c .ends11 .ensures, c .before .u32-at2 .ensures .0) (⊎-elim (λ e. by-tag _ _ 77 (omega arith) (omega arith) e) (λ e. by-tag _ _ 111 (omega arith) (omega arith) e) (c .before .before .match .keys9))
 
 returns-12 : tie.Need-returns-12
 unfolding shapeBy
-returns-12 c = rw (c .ends12 .ensures, c .before .one2 .ensures .0) (by-tag _ _ 110 (omega arith) (omega arith) (c .before .before .match .keys10))
+returns-12 c = rw (c .ends12 .ensures, c .before .u8-at2 .ensures .0) (by-tag _ _ 110 (omega arith) (omega arith) (c .before .before .match .keys10))
 
 returns-13 : tie.Need-returns-13
 unfolding shapeBy
-returns-13 c = rw (c .holds .ensures, c .before .one3 .ensures .0) (by-tag _ _ 104 (omega arith) (omega arith) (c .before .before .match .keys11))
+returns-13 c = rw (c .inner .ensures, c .before .u8-at3 .ensures .0) (by-tag _ _ 104 (omega arith) (omega arith) (c .before .before .match .keys11))
 
 returns-14 : tie.Need-returns-14
 unfolding shapeBy
-returns-14 c = rw (c .holds2 .ensures, c .before .four3 .ensures .0) (by-tag _ _ 105 (omega arith) (omega arith) (c .before .before .match .keys12))
+returns-14 c = rw (c .inner2 .ensures, c .before .u32-at3 .ensures .0) (by-tag _ _ 105 (omega arith) (omega arith) (c .before .before .match .keys12))
 
 returns-15 : tie.Need-returns-15
 unfolding shapeBy
-returns-15 c = rw (c .holds3 .ensures, c .before .four4 .ensures .0) (by-tag _ _ 108 (omega arith) (omega arith) (c .before .before .match .keys13))
+returns-15 c = rw (c .inner3 .ensures, c .before .u32-at4 .ensures .0) (by-tag _ _ 108 (omega arith) (omega arith) (c .before .before .match .keys13))
 
 returns-16 : tie.Need-returns-16
 unfolding shapeBy
-returns-16 c = rw (c .holds4 .ensures, c .before .four5 .ensures .0) (by-tag _ _ 116 (omega arith) (omega arith) (c .before .before .match .keys14))
+returns-16 c = rw (c .inner4 .ensures, c .before .u32-at5 .ensures .0) (by-tag _ _ 116 (omega arith) (omega arith) (c .before .before .match .keys14))
 
 returns-17 : tie.Need-returns-17
 unfolding shapeBy
-returns-17 c = rw (c .holds5 .ensures) (⊎-elim (λ e. by-tag _ _ 88 (omega arith) (omega arith) e) (λ e. by-tag _ _ 120 (omega arith) (omega arith) e) (c .before .match .keys15))
+returns-17 c = rw (c .inner5 .ensures) (⊎-elim (λ e. by-tag _ _ 88 (omega arith) (omega arith) e) (λ e. by-tag _ _ 120 (omega arith) (omega arith) e) (c .before .match .keys15))
 
 returns-18 : tie.Need-returns-18
 unfolding shapeBy
-returns-18 c = rw (c .holds6 .ensures, c .before .two2 .ensures .0) (by-tag _ _ 90 (omega arith) (omega arith) (c .before .before .match .keys16))
+returns-18 c = rw (c .inner6 .ensures, c .before .u16-at2 .ensures .0) (by-tag _ _ 90 (omega arith) (omega arith) (c .before .before .match .keys16))
 
 returns-19 : tie.Need-returns-19
 unfolding shapeBy
-returns-19 c = c .holds7 .ensures ∙ by-tag _ _ 113 (omega arith) (omega arith) (c .before .match .keys17)
+returns-19 c = c .inner7 .ensures ∙ by-tag _ _ 113 (omega arith) (omega arith) (c .before .match .keys17)
 
 returns-20 : tie.Need-returns-20
 unfolding shapeBy
-returns-20 c = rw (c .holds8 .ensures, c .before .four6 .ensures .0) (by-tag _ _ 112 (omega arith) (omega arith) (c .before .before .match .keys18))
+returns-20 c = rw (c .inner8 .ensures, c .before .u32-at6 .ensures .0) (by-tag _ _ 112 (omega arith) (omega arith) (c .before .before .match .keys18))
 
 returns-21 : tie.Need-returns-21
 unfolding shapeBy

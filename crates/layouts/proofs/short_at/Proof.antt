@@ -4,7 +4,7 @@ use mathlib.Core.Path.{_≡_, refl, _∙_}
 use lib.ListN.{getD}
 use borrow.Author.Tests.{ne-eqb}
 use borrow.Author.Needs.{needs}
-use Rattle.layouts.specs.Shape.{shortBy}
+use Rattle.layouts.specs.Inner.Shape.{shortBy}
 use Rattle.layouts.proofs.Shapes.{short-tag, short-past, short-large}
 use Rattle.layouts.proofs.short_at.Statement.{statement}
 use Rattle.layouts.proofs.short_at.Tie as tie
@@ -33,18 +33,18 @@ returns-6 c = short-tag _ _ 106 (omega arith) (omega arith) (c .match .keys4)
 
 returns-7 : tie.Need-returns-7
 unfolding shortBy
-returns-7 c = rw (c .one .ensures .0) (short-tag _ _ 119 (omega arith) (omega arith) (c .before .match .keys5))
+returns-7 c = rw (c .u8-at .ensures .0) (short-tag _ _ 119 (omega arith) (omega arith) (c .before .match .keys5))
 
 returns-8 : tie.Need-returns-8
 unfolding shortBy
-returns-8 c = rw (c .four .ensures .0) (short-tag _ _ 109 (omega arith) (omega arith) (c .before .match .keys6))
+returns-8 c = rw (c .u32-at .ensures .0) (short-tag _ _ 109 (omega arith) (omega arith) (c .before .match .keys6))
 
 returns-9 : tie.Need-returns-9
 unfolding shortBy
 returns-9 c =
     let r = c .match .rest in
     let b = c .before .before .before .before .before .args .b .now in
-    let p = c .before .before .before .before .before .args .pos in
+    let p = c .before .before .before .before .before .args .at in
     let t = getD b p 0 in
     let n : 0 ≡ shortBy b p t = rw (ne-eqb t 97 (r .0 .0 .0 .0 .0 .1), ne-eqb t 98 (r .0 .0 .0 .0 .1), ne-eqb t 70 (r .0 .0 .0 .1), ne-eqb t 106 (r .0 .0 .1), ne-eqb t 119 (r .0 .1), ne-eqb t 109 (r .1)) in
     n ∙ short-tag b p t (omega arith) (omega arith) refl

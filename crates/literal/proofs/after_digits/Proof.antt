@@ -5,7 +5,7 @@ use Prim.Native.Nat.{_-_, _≤_}
 use native.Mathlib.Omega.{arith}
 use lib.ListN.{length, drop}
 use borrow.Author.Tests.{not-true, not-false}
-use Rattle.literal.specs.Parse.{afterDigits}
+use Rattle.literal.specs.Inner.Parse.{afterDigits}
 use Rattle.literal.proofs.Pieces as pieces
 use Rattle.literal.proofs.after_digits.Statement.{statement}
 use Rattle.literal.proofs.after_digits.Tie as tie

@@ -1,7 +1,7 @@
 -- `literal::cased` meets its contract. Assumes nothing.
 use borrow.Author.Tests.{eq-eqb, ne-eqb}
 use borrow.Author.Needs.{needs}
-use Rattle.literal.specs.Parse.{isCased}
+use Rattle.literal.specs.Inner.Parse.{isCased}
 use Rattle.literal.proofs.cased.Statement.{statement}
 use Rattle.literal.proofs.cased.Tie as tie
 

@@ -1,6 +1,6 @@
 -- `literal::digit` meets its contract. Assumes nothing.
 use borrow.Author.Tests.{lt-leb, le-leb}
-use Rattle.literal.specs.Parse.{isDigit}
+use Rattle.literal.specs.Inner.Parse.{isDigit}
 use Rattle.literal.proofs.digit.Statement.{statement}
 use Rattle.literal.proofs.digit.Tie as tie
 

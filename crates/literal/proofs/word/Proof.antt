@@ -5,7 +5,7 @@ use Prim.Native.Nat.{_-_, _≤_}
 use native.Mathlib.Omega.{arith}
 use lib.ListN.{length, drop}
 use borrow.Author.Tests.{not-true, not-false}
-use Rattle.literal.specs.Parse.{isWord}
+use Rattle.literal.specs.Inner.Parse.{isWord}
 use Rattle.literal.proofs.Pieces as pieces
 use Rattle.literal.proofs.word.Statement.{statement}
 use Rattle.literal.proofs.word.Tie as tie

@@ -20,7 +20,7 @@ shared-slice-read-result : tie.Need-shared-slice-read-result
 shared-slice-read-result c = byte-inside (c .before .before .before .before .before .before .before .before .pre .0 .is) (c .before .match3 .keys1)
 
 cast-result : tie.Need-cast-result
-cast-result c = record { sfits = omega (arith, c .shared-slice-known4 .given (c .before .before .before .before .before .before .before .before .args .pos + 1)) }
+cast-result c = record { sfits = omega (arith, c .shared-slice-known4 .given (c .before .before .before .before .before .before .before .before .args .at + 1)) }
 
 returns : tie.Need-returns
 returns c = record { is = λ t i. rw (c .before .before .enum-told .given .1) (c .same .ensures ∙ short-name i (c .before .before .before .before .before .before .before .pre .1) (c .before .match2 .keys1) .tells _) }
@@ -32,7 +32,7 @@ returns-3 : tie.Need-returns-3
 returns-3 c = record { is = λ t i. rw (c .before .enum-told .given .1) (sym (not-atom i _ (c .match2 .rest .0 .1) (c .match2 .rest .1))) }
 
 returns-4 : tie.Need-returns-4
-returns-4 c = record { is = λ t i. rw (c .before .before .before .key .given .1) (byte-tells i (c .before .match3 .keys1) (record { sfits = omega (arith, c .shared-slice-known4 .given (c .before .before .before .before .before .before .before .before .args .pos + 1)) }) (search needs)) }
+returns-4 c = record { is = λ t i. rw (c .before .before .before .key .given .1) (byte-tells i (c .before .match3 .keys1) (record { sfits = omega (arith, c .shared-slice-known4 .given (c .before .before .before .before .before .before .before .before .args .at + 1)) }) (search needs)) }
 
 returns-5 : tie.Need-returns-5
 returns-5 c = record { is = λ t i. rw (c .before .before .before .before .before .before .key .given .1) (word-tells i (c .before .before .before .before .match3 .keys2) (sym (c .before .before .before .be-i32 .ensures) ∙ c .before .y .given .1) (search needs) (search needs)) }

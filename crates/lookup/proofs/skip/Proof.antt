@@ -6,22 +6,22 @@ use mathlib.Core.Path.{_≡_}
 use borrow.Author.Needs.{needs}
 use lib.ListN.{length}
 use Rattle.layouts.specs.Tree.{Tree, bytes}
-use Rattle.lookup.specs.Walk.{Term}
+use Rattle.lookup.specs.Inner.Walk.{Term}
 use Rattle.lookup.proofs.Passing.{Owed, bound, at-first, at-last, goes-into, goes-over}
 use Rattle.lookup.proofs.skip.Statement.{statement}
 use Rattle.lookup.proofs.skip.Tie as tie
 
 abbrev Inv-loop : tie.InvT-loop
-Inv-loop b start pos₀ owed₀ pos owed = (t : Tree) → Term b start t → Owed b pos owed (start + length (bytes t))
+Inv-loop b start at₀ owed₀ at owed = (t : Tree) → Term b start t → Owed b at owed (start + length (bytes t))
 
 abbrev μ-loop : tie.MeasureT-loop
-μ-loop b start pos₀ owed₀ pos owed = length b - pos
+μ-loop b start at₀ owed₀ at owed = length b - at
 
 loop-holds : tie.Need-loop-holds Inv-loop μ-loop
 loop-holds c = λ t i. at-first i
 
-add-pos : tie.Need-add-pos Inv-loop μ-loop
-add-pos c = let q = c .before .before .before .before .before .before .before .before .before .pre in let s = goes-over (c .before .before .before .before .before .before .before .loop .inv (q .tree) (q .is)) (omega arith) (q .short) (c .before .before .before .before .before .shape-at .ensures) (c .before .before .shape-at2 .ensures) (c .before .before .before .if1 .taken) in omega (arith, bound (s .rest), q .short)
+add-at : tie.Need-add-at Inv-loop μ-loop
+add-at c = let q = c .before .before .before .before .before .before .before .before .before .pre in let s = goes-over (c .before .before .before .before .before .before .before .loop .inv (q .tree) (q .is)) (omega arith) (q .short) (c .before .before .before .before .before .shape-at .ensures) (c .before .before .shape-at2 .ensures) (c .before .before .before .if1 .taken) in omega (arith, bound (s .rest), q .short)
 
 loop-less : tie.Need-loop-less Inv-loop μ-loop
 loop-less c = let q = c .before .before .before .before .before .before .before .before .before .pre in let s = goes-over (c .before .before .before .before .before .before .before .loop .inv (q .tree) (q .is)) (omega arith) (q .short) (c .before .before .before .before .before .shape-at .ensures) (c .before .before .shape-at2 .ensures) (c .before .before .before .if1 .taken) in omega (arith, bound (s .rest), s .rises)
@@ -50,7 +50,7 @@ skip-spec =
     loop-holds
     (λ c κs. search needs)
     (λ c κs. search needs)
-    add-pos
+    add-at
     (λ c. search needs)
     loop-less
     loop-again

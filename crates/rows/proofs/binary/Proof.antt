@@ -3,47 +3,34 @@ use native.Mathlib.Omega.{arith}
 use mathlib.Core.Path.{sym, _∙_}
 use borrow.Author.Needs.{needs}
 use Rattle.rows.specs.Layout.{binary}
-use Rattle.rows.proofs.Laws.{sized-is, sized-eof, capped-in, capped-out}
-use Rattle.fields.proofs.Laws.{is-whole}
+use Rattle.rows.proofs.Laws.{count-there, counted-is, counted-no}
 use Rattle.rows.proofs.binary.Statement.{statement}
 use Rattle.rows.proofs.binary.Tie as tie
 
-be-u32-requires : tie.Need-be-u32-requires
-be-u32-requires c κs = search needs
+count-requires : tie.Need-count-requires
+count-requires c κs = search needs
 
-enum-known-f : tie.Need-enum-known-f
-enum-known-f c = search needs
-
-returns : tie.Need-returns
-unfolding binary
-returns c = sym (sized-is 4 _ _ _ (sym (c .before .before .before .before .be-u32 .ensures) ∙ c .before .before .f .given .1) ∙ capped-out _ _ _ (omega (arith, c .if1 .taken)))
+enum-known-size : tie.Need-enum-known-size
+enum-known-size c = search needs
 
 add-bytes : tie.Need-add-bytes
-add-bytes c = omega (arith, is-whole 4 _ _ (sym (c .before .before .before .before .be-u32 .ensures) ∙ c .before .before .f .given .1) .0)
+add-bytes c = omega (arith, count-there _ _ _ (sym (c .before .before .before .count .ensures) ∙ c .before .size .given .1))
 
 bytes-requires : tie.Need-bytes-requires
 bytes-requires c κs = search needs
 
-enum-told : tie.Need-enum-told
-enum-told c = search needs
+enum-known-size-2 : tie.Need-enum-known-size-2
+enum-known-size-2 c = search needs
+
+returns : tie.Need-returns
+unfolding binary
+returns c = c .bytes .ensures ∙ sym (counted-is _ _ _ _ _ (sym (c .before .before .before .before .count .ensures) ∙ c .before .before .size .given .1))
 
 returns-2 : tie.Need-returns-2
 unfolding binary
-returns-2 c = c .bytes .ensures ∙ sym (sized-is 4 _ _ _ (sym (c .before .before .before .before .before .be-u32 .ensures) ∙ c .before .before .before .f .given .1) ∙ capped-in _ _ _ (omega (arith, c .before .if1 .left)))
-
-returns-3 : tie.Need-returns-3
-unfolding binary
-returns-3 c = sym (sized-eof 4 _ _ _ (sym (c .before .before .be-u32 .ensures) ∙ c .enum-told .given .1))
+returns-2 c = sym (counted-no _ _ _ _ _ (sym (c .before .before .before .count .ensures) ∙ c .before .size2 .given .1))
 
 pub binary-spec : {M : Type 1} → statement M
 binary-spec =
     tie.close
-    (tie.spec
-    be-u32-requires
-    enum-known-f
-    returns
-    add-bytes
-    bytes-requires
-    enum-told
-    returns-2
-    returns-3)
+    (tie.spec count-requires enum-known-size add-bytes bytes-requires enum-known-size-2 returns returns-2)

@@ -3,7 +3,7 @@ use lib.ListN.{drop}
 use native.Mathlib.Omega.{arith}
 use mathlib.Core.Path.{refl, ap, sym, _∙_}
 use borrow.Author.Needs.{needs}
-use Rattle.utf8.specs.Unicode.{goodBytes}
+use Rattle.utf8.specs.Inner.Find.{goodBytes}
 use Rattle.rows.proofs.Laws.{name-good, name-bad, name-gone, part}
 use Rattle.fields.proofs.Laws.{there}
 use Rattle.rows.proofs.name.Statement.{statement}
@@ -28,10 +28,10 @@ good-requires : tie.Need-good-requires
 good-requires c κs = search needs
 
 returns : tie.Need-returns
-returns c = name-good _ _ _ (sym (c .before .before .before .before .has .ensures) ∙ c .before .before .before .if1 .taken) (ap goodBytes (sym (part (drop (c .before .before .before .before .before .before .args .p) (c .before .before .before .before .before .before .args .b .now)) (c .before .before .before .before .before .before .args .p) (c .before .before .before .before .before .before .args .n) _ refl)) ∙ sym (c .before .good2 .ensures) ∙ c .if2 .taken)
+returns c = name-good _ _ _ (sym (c .before .before .before .before .has .ensures) ∙ c .before .before .before .if1 .taken) (ap goodBytes (sym (part (drop (c .before .before .before .before .before .before .args .at) (c .before .before .before .before .before .before .args .b .now)) (c .before .before .before .before .before .before .args .at) (c .before .before .before .before .before .before .args .n) _ refl)) ∙ sym (c .before .good2 .ensures) ∙ c .if2 .taken)
 
 returns-2 : tie.Need-returns-2
-returns-2 c = name-bad _ _ _ (sym (c .before .before .before .before .has .ensures) ∙ c .before .before .before .if1 .taken) (λ e. c .if2 .left (c .before .good2 .ensures ∙ ap goodBytes (part (drop (c .before .before .before .before .before .before .args .p) (c .before .before .before .before .before .before .args .b .now)) (c .before .before .before .before .before .before .args .p) (c .before .before .before .before .before .before .args .n) _ refl) ∙ e))
+returns-2 c = name-bad _ _ _ (sym (c .before .before .before .before .has .ensures) ∙ c .before .before .before .if1 .taken) (λ e. c .if2 .left (c .before .good2 .ensures ∙ ap goodBytes (part (drop (c .before .before .before .before .before .before .args .at) (c .before .before .before .before .before .before .args .b .now)) (c .before .before .before .before .before .before .args .at) (c .before .before .before .before .before .before .args .n) _ refl) ∙ e))
 
 returns-3 : tie.Need-returns-3
 returns-3 c = name-gone _ _ _ (sym (c .before .has .ensures) ∙ c .if1 .left)

@@ -2,8 +2,7 @@
 use native.Mathlib.Omega.{arith}
 use mathlib.Core.Path.{sym, _∙_}
 use borrow.Author.Needs.{needs}
-use Rattle.rows.proofs.Laws.{sized-is, sized-eof}
-use Rattle.fields.proofs.Laws.{is-whole}
+use Rattle.fields.proofs.Laws.{is-whole, then-is, then-eof}
 use Rattle.rows.proofs.string.Statement.{statement}
 use Rattle.rows.proofs.string.Tie as tie
 
@@ -23,10 +22,10 @@ enum-told : tie.Need-enum-told
 enum-told c = search needs
 
 returns : tie.Need-returns
-returns c = c .bytes .ensures ∙ sym (sized-is 2 _ _ _ (sym (c .before .before .before .before .be-u16 .ensures) ∙ c .before .before .f .given .1))
+returns c = c .bytes .ensures ∙ sym (then-is 2 _ _ _ _ (sym (c .before .before .before .before .be-u16 .ensures) ∙ c .before .before .f .given .1))
 
 returns-2 : tie.Need-returns-2
-returns-2 c = sym (sized-eof 2 _ _ _ (sym (c .before .before .be-u16 .ensures) ∙ c .enum-told .given .1))
+returns-2 c = sym (then-eof 2 _ _ _ _ (sym (c .before .before .be-u16 .ensures) ∙ c .enum-told .given .1))
 
 pub string-spec : {M : Type 1} → statement M
 string-spec =

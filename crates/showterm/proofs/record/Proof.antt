@@ -1,12 +1,12 @@
 -- `showterm::record` is safe: an accepted record has no more cells than the tape has room for.
 use native.Mathlib.Omega.{arith}
 use borrow.Author.Needs.{needs}
-use Rattle.tape.proofs.Room.{cells-of-record}
+use Rattle.tape.proofs.Accepts.{in-room}
 use Rattle.showterm.proofs.record.Statement.{statement}
 use Rattle.showterm.proofs.record.Tie as tie
 
 accepted-requires : tie.Need-accepted-requires
-accepted-requires c κs = omega (arith, cells-of-record _ _ _ _ (c .before .before .before .before .before .before .read .ensures .0) (omega arith))
+accepted-requires c κs = omega (arith, in-room (c .before .before .before .before .before .before .read .ensures) (omega arith))
 
 pub record-spec : {M : Type 1} → statement M
 record-spec =

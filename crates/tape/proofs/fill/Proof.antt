@@ -10,10 +10,10 @@ use Rattle.tape.proofs.fill.Statement.{statement}
 use Rattle.tape.proofs.fill.Tie as tie
 
 abbrev Inv-loop : tie.InvT-loop
-Inv-loop b tape₀ pos₀ left₀ cell₀ up₀ tape pos left cell up = Going b tape₀ up left pos cell tape
+Inv-loop b tape₀ at₀ left₀ cell₀ up₀ tape at left cell up = Going b tape₀ up left at cell tape
 
 abbrev μ-loop : tie.MeasureT-loop
-μ-loop b tape₀ pos₀ left₀ cell₀ up₀ tape pos left cell up = (length b - pos) * 16777217 + up
+μ-loop b tape₀ at₀ left₀ cell₀ up₀ tape at left cell up = (length b - at) * 16777217 + up
 
 shared-slice-read-begin : tie.Need-shared-slice-read-begin Inv-loop μ-loop
 shared-slice-read-begin c = laws.there (c .before .before .before .before .pre) .0
@@ -56,8 +56,8 @@ loop-less c =
 loop-again : tie.Need-loop-again Inv-loop μ-loop
 loop-again c = laws.out (c .before .before .before .before .before .before .before .before .before .loop .inv) (c .before .before .before .finish2 .ensures .0) (c .before .before .before .before .before .before .before .before .if1 .taken) (c .if2 .left) (c .before .before .before .finish2 .ensures .1) .1
 
-leaf-requires : tie.Need-leaf-requires Inv-loop μ-loop
-leaf-requires c κs =
+leaf-cell-requires : tie.Need-leaf-cell-requires Inv-loop μ-loop
+leaf-cell-requires c κs =
     let x = laws.first (c .before .before .before .before .loop .inv) (c .before .before .before .if1 .left) in
     let h = laws.small-shape _ _ (x .some) (x .short) (c .before .if3 .taken) in
     let s = laws.shaped (x .short) (x .tree) (x .laid) (x .stands) h in
@@ -67,10 +67,10 @@ loop-again-2 : tie.Need-loop-again-2 Inv-loop μ-loop
 loop-again-2 c =
     let x = laws.first (c .before .before .before .before .before .before .before .loop .inv) (c .before .before .before .before .before .before .if1 .left) in
     let h = laws.small-shape _ _ (x .some) (x .short) (c .before .before .before .before .if3 .taken) in
-    laws.past (c .before .before .before .before .before .before .before .loop .inv) (c .before .before .before .before .before .before .if1 .left) h (rw (c .before .before .before .before .if3 .taken) (c .before .before .leaf .ensures .0)) (c .before .before .leaf .ensures .1)
+    laws.past (c .before .before .before .before .before .before .before .loop .inv) (c .before .before .before .before .before .before .if1 .left) h (rw (c .before .before .before .before .if3 .taken) (c .before .before .leaf-cell .ensures .0)) (c .before .before .leaf-cell .ensures .1)
 
-leaf-requires-2 : tie.Need-leaf-requires-2 Inv-loop μ-loop
-leaf-requires-2 c κs =
+leaf-cell-requires-2 : tie.Need-leaf-cell-requires-2 Inv-loop μ-loop
+leaf-cell-requires-2 c κs =
     let x = laws.first (c .before .before .before .before .before .before .before .loop .inv) (c .before .before .before .before .before .before .if1 .left) in
     let h = laws.short-shape _ _ (c .before .before .before .short-at .ensures) (c .before .before .if4 .taken) in
     let s = laws.shaped (x .short) (x .tree) (x .laid) (x .stands) h in
@@ -86,7 +86,7 @@ loop-less-3 c =
 loop-again-3 : tie.Need-loop-again-3 Inv-loop μ-loop
 loop-again-3 c =
     let h = laws.short-shape _ _ (c .before .before .before .before .before .before .short-at .ensures) (c .before .before .before .before .before .if4 .taken) in
-    laws.past (c .before .before .before .before .before .before .before .before .before .before .loop .inv) (c .before .before .before .before .before .before .before .before .before .if1 .left) h (c .before .before .leaf2 .ensures .0) (c .before .before .leaf2 .ensures .1)
+    laws.past (c .before .before .before .before .before .before .before .before .before .before .loop .inv) (c .before .before .before .before .before .before .before .before .before .if1 .left) h (c .before .before .leaf-cell2 .ensures .0) (c .before .before .leaf-cell2 .ensures .1)
 
 begin-requires-2 : tie.Need-begin-requires-2 Inv-loop μ-loop
 begin-requires-2 c κs =
@@ -143,14 +143,14 @@ fill-spec =
     (λ c. omega arith)
     (λ c. laws.first (c .before .before .loop .inv) (c .before .if1 .left) .some)
     (λ c. let x = laws.first (c .before .before .before .before .loop .inv) (c .before .before .before .if1 .left) in omega arith)
-    leaf-requires
+    leaf-cell-requires
     (λ c. let x = laws.first (c .before .before .before .before .before .before .before .loop .inv) (c .before .before .before .before .before .before .if1 .left) in omega arith)
     (λ c. let x = laws.first (c .before .before .before .before .before .before .before .loop .inv) (c .before .before .before .before .before .before .if1 .left) in omega arith)
     (λ c. let x = laws.first (c .before .before .before .before .before .before .before .loop .inv) (c .before .before .before .before .before .before .if1 .left) in omega arith)
     loop-again-2
     (λ c κs. tt)
     (λ c. laws.first (c .before .before .before .before .before .before .before .loop .inv) (c .before .before .before .before .before .before .if1 .left) .some)
-    leaf-requires-2
+    leaf-cell-requires-2
     (λ c. let x = laws.first (c .before .before .before .before .before .before .before .before .before .before .loop .inv) (c .before .before .before .before .before .before .before .before .before .if1 .left) in omega arith)
     loop-less-3
     loop-again-3

@@ -4,7 +4,7 @@ use lib.ListN.{length}
 use native.Mathlib.Omega.{arith}
 use Prim.Native.Nat.{_-_}
 use Rattle.utf8.proofs.Eights.{plain-none, plain-join}
-use Rattle.utf8.specs.Check.{Plain}
+use Rattle.utf8.specs.Inner.Check.{Plain}
 use Rattle.utf8.proofs.blocks_end.Statement.{statement}
 use Rattle.utf8.proofs.blocks_end.Tie as tie
 

@@ -5,7 +5,7 @@ use mathlib.Core.Path.{_∙_, sym, subst}
 use native.Mathlib.Omega.{arith}
 use Prim.Native.Nat.{ℕ, _+_, _-_, _≤_}
 use Rattle.utf8.proofs.Eights.{never, plain-none, plain-join, plain-part}
-use Rattle.utf8.specs.Check.{Plain}
+use Rattle.utf8.specs.Inner.Check.{Plain}
 use Rattle.utf8.proofs.long.Statement.{statement}
 use Rattle.utf8.proofs.long.Tie as tie
 

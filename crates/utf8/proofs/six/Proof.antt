@@ -3,7 +3,7 @@ use mathlib.Core.Logic.{inl, inr}
 use mathlib.Core.Path.{refl}
 use native.Mathlib.Omega.{arith}
 use borrow.Author.Needs.{needs}
-use Rattle.utf8.specs.Check.{bits, other}
+use Rattle.utf8.specs.Inner.Check.{bits, other}
 use Rattle.utf8.proofs.six.Statement.{statement}
 use Rattle.utf8.proofs.six.Tie as tie
 

@@ -2,9 +2,8 @@
 use native.Mathlib.Omega.{arith}
 use mathlib.Core.Path.{sym, _∙_}
 use borrow.Author.Needs.{needs}
-use Rattle.fields.proofs.Laws.{is-whole}
+use Rattle.fields.proofs.Laws.{is-whole, then-is, then-eof}
 use Rattle.cache.specs.Header.{nameAt}
-use Rattle.cache.proofs.Reading.{sized-is, sized-eof}
 use Rattle.cache.proofs.header.name_at.Statement.{statement}
 use Rattle.cache.proofs.header.name_at.Tie as tie
 
@@ -16,19 +15,19 @@ add-name-2 c = omega (arith, is-whole 1 _ _ (sym (c .before .before .before .be-
 
 returns : tie.Need-returns
 unfolding nameAt
-returns c = rw (c .before .before .before .before .before .if1 .taken) (c .name .ensures ∙ sym (sized-is _ 2 _ _ _ (sym (c .before .before .before .before .be-u16 .ensures) ∙ c .before .before .f .given .1)))
+returns c = rw (c .before .before .before .before .before .if1 .taken) (c .name .ensures ∙ sym (then-is 2 _ _ _ _ (sym (c .before .before .before .before .be-u16 .ensures) ∙ c .before .before .f .given .1)))
 
 returns-2 : tie.Need-returns-2
 unfolding nameAt
-returns-2 c = rw (c .before .before .before .if1 .taken) (sym (sized-eof _ 2 _ _ _ (sym (c .before .before .be-u16 .ensures) ∙ c .enum-told .given .1)))
+returns-2 c = rw (c .before .before .before .if1 .taken) (sym (then-eof 2 _ _ _ _ (sym (c .before .before .be-u16 .ensures) ∙ c .enum-told .given .1)))
 
 returns-3 : tie.Need-returns-3
 unfolding nameAt
-returns-3 c = rw (c .before .before .before .before .before .if1 .left) (c .name2 .ensures ∙ sym (sized-is _ 1 _ _ _ (sym (c .before .before .before .before .be-u8 .ensures) ∙ c .before .before .f2 .given .1)))
+returns-3 c = rw (c .before .before .before .before .before .if1 .left) (c .name2 .ensures ∙ sym (then-is 1 _ _ _ _ (sym (c .before .before .before .before .be-u8 .ensures) ∙ c .before .before .f2 .given .1)))
 
 returns-4 : tie.Need-returns-4
 unfolding nameAt
-returns-4 c = rw (c .before .before .before .if1 .left) (sym (sized-eof _ 1 _ _ _ (sym (c .before .before .be-u8 .ensures) ∙ c .enum-told2 .given .1)))
+returns-4 c = rw (c .before .before .before .if1 .left) (sym (then-eof 1 _ _ _ _ (sym (c .before .before .be-u8 .ensures) ∙ c .enum-told2 .given .1)))
 
 pub name-at-spec : {M : Type 1} → statement M
 name-at-spec =

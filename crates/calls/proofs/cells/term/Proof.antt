@@ -2,18 +2,18 @@
 use native.Mathlib.Omega.{arith}
 use borrow.Author.Needs.{needs}
 use lib.ListN.{length-take}
-use Rattle.tape.proofs.Room.{cells-of-record}
+use Rattle.tape.proofs.Accepts.{in-room}
 use Rattle.calls.proofs.cells.term.Statement.{statement}
 use Rattle.calls.proofs.cells.term.Tie as tie
 
 mul-n : tie.Need-mul-n
-mul-n c = omega (arith, cells-of-record _ _ _ _ (c .before .before .before .before .before .read .ensures .0) (omega arith))
+mul-n c = omega (arith, in-room (c .before .before .before .before .before .read .ensures) (omega arith))
 
 slice-reshare-prefix-row : tie.Need-slice-reshare-prefix-row
-slice-reshare-prefix-row c = omega (arith, cells-of-record _ _ _ _ (c .before .before .before .before .before .read .ensures .0) (omega arith))
+slice-reshare-prefix-row c = omega (arith, in-room (c .before .before .before .before .before .read .ensures) (omega arith))
 
 slice-aggregate-row : tie.Need-slice-aggregate-row
-slice-aggregate-row c = simp length-take (omega (arith, cells-of-record _ _ _ _ (c .before .before .before .before .before .before .read .ensures .0) (omega arith)))
+slice-aggregate-row c = simp length-take (omega (arith, in-room (c .before .before .before .before .before .before .read .ensures) (omega arith)))
 
 pub term-spec : {M : Type 1} → statement M
 term-spec =

@@ -1,0 +1,4 @@
+pub mod Leaves
+pub mod Sound
+pub mod Complete
+pub mod Accepts

@@ -1,0 +1,11 @@
+pub mod Ways
+pub mod Floor
+pub mod Agrees
+pub mod Rows
+pub mod Atoms
+pub mod AsReading
+pub mod HeadIs
+pub mod Promised
+pub mod OfTree
+pub mod Values
+pub mod Examples

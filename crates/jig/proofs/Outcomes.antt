@@ -1,0 +1,51 @@
+-- The first number that a call tells is Done or the number of a refusal, as the answer beneath it is. Assumes nothing.
+use Prim.Native.Nat.{ℕ}
+use mathlib.Core.List.{List}
+use Rattle.numbers.specs.Numbers.{outcome, Shown}
+use Rattle.numbers.proofs.Laws.{listed-shown}
+use Rattle.reading.specs.declared.Answer.{Answer}
+use Rattle.heads.specs.Run.{valueOutcome}
+use Rattle.heads.specs.Inner.Head.{headAt}
+use Rattle.heads.specs.declared.Value.{Value}
+use Rattle.heads.specs.declared.Value.the-variants as value
+use Rattle.heads.proofs.Outcomes.{head-shown}
+use Rattle.cache.specs.Names.{gotAt, gotOutcome}
+use Rattle.cache.specs.declared.Got.{Got}
+use Rattle.cache.specs.declared.Got.the-variants as got
+use Rattle.cache.proofs.Outcomes.{got-shown}
+use Rattle.jig.specs.Shown.{Tells, FirstShown}
+use Rattle.jig.specs.Heads.{valueWords, headWords}
+use Rattle.jig.specs.Names.{nameWords}
+
+pub answer-told : {P : Answer → Type 0} {told old new : List ℕ} → ((r : Answer) → P r → Shown (outcome (r .number))) → Tells P told old new → FirstShown told
+answer-told h t = rw (t .shows) (h (t .answer) (t .promised))
+
+value-told : (tag : ℕ) (v : Value) → Shown (valueOutcome v) → FirstShown (valueWords tag v)
+value-told tag (value.Integer z) h = tt
+value-told tag (value.NumberText p n) h = tt
+value-told tag (value.Double x bits) h = tt
+value-told tag (value.Atom p n) h = tt
+value-told tag (value.Tuple n) h = tt
+value-told tag value.Nil h = tt
+value-told tag (value.String p n) h = tt
+value-told tag (value.List n) h = tt
+value-told tag (value.Binary p n) h = tt
+value-told tag (value.BitString p n k) h = tt
+value-told tag (value.Big p n sign negative) h = tt
+value-told tag (value.Map n) h = tt
+value-told tag (value.Pid p n id serial creation) h = tt
+value-told tag (value.Reference k p n creation ids) h = tt
+value-told tag (value.Port p n id creation) h = tt
+value-told tag value.Export h = tt
+value-told tag (value.Function size arity p index free) h = tt
+value-told tag (value.No number offset extra) h = listed-shown number h
+
+got-told : (g : Got) → Shown (gotOutcome g) → FirstShown (nameWords g)
+got-told (got.Name p n) h = tt
+got-told (got.No number) h = listed-shown number h
+
+pub head-told : (b : List ℕ) (at : ℕ) → FirstShown (headWords (headAt b at))
+head-told b at = value-told (headAt b at .tag) (headAt b at .value) (head-shown b at)
+
+pub name-told : (words store : List ℕ) (i : ℕ) → FirstShown (nameWords (gotAt words store i))
+name-told words store i = got-told (gotAt words store i) (got-shown words store i)

@@ -1,0 +1,19 @@
+-- The caps of the format, and the two limits of ours.
+use Prim.Native.Nat.{ℕ}
+
+-- "Caps: arity 10,000,000 for 105 and 108, 1,000,000 for 116, length 100,000,000 for 109 and 77" (document 01)
+abbrev pub elements : ℕ
+elements = 10000000
+
+abbrev pub pairs : ℕ
+pairs = 1000000
+
+abbrev pub binary : ℕ
+binary = 100000000
+
+-- "a nesting limit of 1 to 64"; "input up to 16,777,216 bytes" (the request)
+abbrev pub nesting : ℕ
+nesting = 64
+
+abbrev pub input : ℕ
+input = 16777216

@@ -1,0 +1,9 @@
+pub mod Families
+pub mod Answers
+pub mod Keeps
+pub mod Floors
+pub mod Bounds
+pub mod Outcomes
+pub mod Local
+pub mod Limits
+pub mod Examples

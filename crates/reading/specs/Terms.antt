@@ -1,0 +1,117 @@
+-- The definition of reading a term: document 01's layouts and steps, one clause for each row. What stands behind a child is read by
+-- `read`, which is `term` with one level of nesting less.
+use Prim.Native.Nat.{ℕ, zero, suc, _+_, _-_, _*_}
+use mathlib.Core.List.{List}
+use mathlib.Core.Bool.{Bool, false, cond, _||_}
+use lib.Dec.{ltb, leb, eqb}
+use lib.ListN.{length, getD}
+use Rattle.fields.specs.Field.{fieldAt}
+use Rattle.fields.specs.declared.Field.{Field}
+use Rattle.fields.specs.declared.Field.the-variants as field
+use Rattle.numbers.specs.Numbers as number
+use Rattle.numbers.specs.Caps as cap
+use Rattle.rows.specs.Layout.{rowAt}
+use Rattle.reading.specs.declared.Kind.{Kind}
+use Rattle.reading.specs.declared.Kind.the-variants as kind
+use Rattle.reading.specs.Reading.{State, Result, done, no, andThen, entered, moved, reach, begin, refused, fields, pass, sized, counted}
+
+abbrev pub byteAt : List ℕ → ℕ → ℕ
+byteAt b i = getD b i 0
+
+-- n children, the first of which has the index i
+unfoldable pub elems : (State → Result) → Kind → ℕ → ℕ → State → Result
+elems read k i zero s = done s
+elems read k i (suc n) s = andThen (entered k i (read s)) (elems read k (i + 1) n)
+
+-- "key and value pairs": the value's segment has the key's offset
+unfoldable pub pair : (State → Result) → State → Result
+pair read s = andThen (entered kind.Key 0 (read s)) (λ t. entered kind.Value (s .at) (read t))
+
+unfoldable pub pairs : (State → Result) → ℕ → State → Result
+pairs read zero s = done s
+pairs read (suc n) s = andThen (pair read s) (pairs read n)
+
+-- "A required child is first read whole, then its kind is judged", by its place
+unfoldable pub required : (State → Result) → (ℕ → Bool) → State → Result
+required read fits s = andThen (read s) (λ t. cond (fits (s .at)) (done t) (refused number.Tag t))
+
+-- "An atom child has tag 100, 118 or 119"
+unfoldable pub isAtom : List ℕ → ℕ → Bool
+isAtom b p = eqb (byteAt b p) 100 || (eqb (byteAt b p) 118 || eqb (byteAt b p) 119)
+
+-- "an integer child 97 or 98", from 0 to `most`. A negative one of tag 98 is 2 ^ 31 or more as it stands, which is above every `most`;
+-- and of 4 bytes just the numbers up to 2147483647 stand for themselves, 0 or more (`signed-natural`, fields/proofs/Laws.antt)
+unfoldable pub atMost : Field → ℕ → Bool
+atMost (field.Is n) most = leb n most
+atMost field.Eof most = false
+
+unfoldable pub isNatural : ℕ → List ℕ → ℕ → Bool
+isNatural most b p =
+    cond (eqb (byteAt b p) 97) (atMost (fieldAt 1 b (p + 1)) most)
+    (cond (eqb (byteAt b p) 98) (atMost (fieldAt 4 b (p + 1)) most) false)
+
+unfoldable pub isPid : List ℕ → ℕ → Bool
+isPid b p = eqb (byteAt b p) 88
+
+module _ (read : State → Result) (b : List ℕ) where
+  -- "arity of 1 / 4 bytes, children"
+  unfoldable pub smallTuple : State → Result
+  smallTuple = sized 1 b (elems read kind.Tuple 0)
+
+  unfoldable pub largeTuple : State → Result
+  largeTuple = counted cap.elements b (elems read kind.Tuple 0)
+
+  -- "length of 4 bytes, children, then a tail child"
+  unfoldable pub list : State → Result
+  list = counted cap.elements b (λ n s. andThen (elems read kind.List 0 n s) (λ t. entered kind.Tail 0 (read t)))
+
+  -- "arity of 4 bytes, key and value pairs"
+  unfoldable pub map : State → Result
+  map = counted cap.pairs b (pairs read)
+
+  -- "atom child, id, serial, creation, 4 bytes each" (88); "atom child, id 8, creation 4" (120)
+  unfoldable pub pid : State → Result
+  pid s = andThen (required read (isAtom b) s) (pass b 12)
+
+  -- "count of 2 bytes, atom child, creation 4, count ids of 4"
+  unfoldable pub reference : State → Result
+  reference = sized 2 b (λ n s. andThen (required read (isAtom b) s) (pass b (4 + 4 * n)))
+
+  -- "atom child, atom child, integer child 0 to 255"
+  unfoldable pub export : State → Result
+  export s =
+      andThen (required read (isAtom b) s) (λ t.
+      andThen (required read (isAtom b) t) (required read (isNatural 255 b)))
+
+  -- "size 4 (ignored), arity 1, 16 bytes, index 4, free count 4; atom child, two integer children of 0 or more, child with tag 88, then
+  -- the free children"
+  unfoldable pub captured : ℕ → State → Result
+  captured n s =
+      andThen (required read (isAtom b) s) (λ t.
+      andThen (required read (isNatural 2147483647 b) t) (λ u.
+      andThen (required read (isNatural 2147483647 b) u) (λ v.
+      andThen (required read (isPid b) v) (elems read kind.Free 0 n))))
+
+  unfoldable pub function : State → Result
+  function s = andThen (pass b 25 s) (sized 4 b captured)
+
+  -- what stands behind a tag
+  unfoldable pub body : ℕ → State → Result
+  body tag s =
+      cond (eqb tag 104) (smallTuple s)
+      (cond (eqb tag 105) (largeTuple s)
+      (cond (eqb tag 108) (list s)
+      (cond (eqb tag 116) (map s)
+      (cond (eqb tag 88 || eqb tag 120) (pid s)
+      (cond (eqb tag 90) (reference s)
+      (cond (eqb tag 113) (export s)
+      (cond (eqb tag 112) (function s)
+      (fields (rowAt b tag (s .at)) s))))))))
+
+-- "no byte left, Eof; nesting over the limit, Deep; else the term is begun". `left` levels of nesting are left of `limit`
+unfoldable pub term : List ℕ → ℕ → ℕ → State → Result
+term b limit zero s = cond (ltb (s .at) (length b)) (refused number.Deep (reach s)) (refused number.Eof (reach s))
+term b limit (suc left) s =
+    cond (ltb (s .at) (length b))
+    (body (term b limit left) b (byteAt b (s .at)) (begin (limit - left) s))
+    (refused number.Eof (reach s))

@@ -1,0 +1,33 @@
+-- How the tape is written when its input is known to be good: what the functions that write it rely on, and what they leave.
+use Prim.Native.Nat.{ℕ, _+_, _*_, _≤_}
+use mathlib.Core.Path.{_≡_}
+use mathlib.Core.List.{List}
+use lib.ListN.{length, set}
+use lib.Seq.{sets}
+use Rattle.numbers.specs.Caps as cap
+use Rattle.layouts.specs.Tree.{Tree, Stands, bytes, size}
+use Rattle.layouts.specs.Layout.{Laid}
+use Rattle.tape.specs.Cells.{cellWords, words}
+
+-- the words of a cell that are known before its children, and those that are known after them
+abbrev pub opened : List ℕ → (cell tag start up : ℕ) → List ℕ
+opened tape c tag start up = set (set (set tape (c * cellWords) tag) (c * cellWords + 1) start) (c * cellWords + 3) up
+
+abbrev pub closed : List ℕ → (cell end size : ℕ) → List ℕ
+closed tape c end size = set (set tape (c * cellWords + 2) end) (c * cellWords + 4) size
+
+-- a tree's words from its cell on
+abbrev pub lay : List ℕ → ℕ → List ℕ → List ℕ
+lay tape c ws = sets tape (c * cellWords) ws
+
+-- a term stands behind byte 131, and there is room for its cells
+pub record Good (b : List ℕ) (room : ℕ) : Type 0 where
+  pub short : length b ≤ cap.input
+  pub tree : Tree
+  pub laid : Laid tree
+  pub stands : Stands b 1 (bytes tree)
+  pub fits : cellWords * size tree ≤ room
+
+-- whatever term stands there, its words are on the tape
+pub record Filled (b old new : List ℕ) : Type 0 where
+  pub same : (t : Tree) → Laid t → Stands b 1 (bytes t) → new ≡ lay old 0 (words t 1 0 0)

@@ -1,0 +1,145 @@
+// What the readers of the families have in common: a term reached and begun, rows without children, bytes passed, and the tests of a child
+// that a row requires. None of these calls a reader.
+use crate::path::refuse;
+use fields::Field;
+use rows::Row;
+ghost use mathlib.Core.Path.{_≡_};
+ghost use mathlib.Core.List.{List};
+ghost use Prim.Native.Nat.{ℕ, _+_, _-_, _<_, _≤_, max};
+ghost use lib.ListN.{length, getD};
+ghost use Rattle.numbers.specs.Caps as cap;
+ghost use Rattle.rows.specs.Layout as layout;
+ghost use Rattle.reading.specs.declared.Segment.{Segment};
+ghost use Rattle.reading.specs.Reading.{reach, begin, fields, pass};
+ghost use Rattle.reading.specs.Terms as def;
+ghost use Rattle.terms.specs.Inner.Kids.{kidsOf};
+ghost use Rattle.terms.specs.Inner.Lent.{place, Shows, Settled, Kept};
+
+// At the start of a term.
+pub(crate) fn reached(at: usize, seen: &mut [usize; 3])
+    requires { ⌜ length (now seen) ≡ 3 ⌝ }
+    ensures { λ r. ⌜ (place at (now (seen .exit)) ≡ reach (place at (now (seen .entry)))) × (length (now (seen .exit)) ≡ 3) ⌝ }
+{
+    seen[0] = at;
+}
+
+// A term is begun at nesting `level`.
+pub(crate) fn begun(at: usize, level: usize, seen: &mut [usize; 3])
+    requires { ⌜ (at < cap.input) × ((getD (now seen) 1 0 ≤ at) × (length (now seen) ≡ 3)) ⌝ }
+    ensures begins { λ r. ⌜ place (at + 1) (now (seen .exit)) ≡ begin level (place at (now (seen .entry))) ⌝ }
+    ensures counts { λ r. ⌜ (getD (now (seen .exit)) 1 0 ≡ getD (now (seen .entry)) 1 0 + 1) × (length (now (seen .exit)) ≡ 3) ⌝ }
+{
+    seen[0] = at;
+    seen[1] = seen[1] + 1;
+    if seen[2] < level {
+        seen[2] = level;
+    }
+}
+
+// The three numbers, from locals.
+pub(crate) fn keep(last: usize, count: usize, deep: usize, seen: &mut [usize; 3])
+    requires { ⌜ length (now seen) ≡ 3 ⌝ }
+    ensures { λ r. ⌜ Kept last count deep (now (seen .exit)) ⌝ }
+{
+    seen[0] = last;
+    seen[1] = count;
+    seen[2] = deep;
+}
+
+// A row's answer: its end, or its refusal.
+fn settled(row: Row, fault: &mut [u64; 67]) -> usize
+    requires { ⌜ length (now fault) ≡ 67 ⌝ }
+    ensures { λ r. ⌜ Settled row r (now (fault .exit)) ⌝ }
+{
+    match row {
+        Row::To(e) => e,
+        Row::No(n, x) => refuse(n, x, fault),
+    }
+}
+
+// A term without children.
+pub(crate) fn row(b: &[u8], tag: u8, at: usize, fault: &mut [u64; 67]) -> usize
+    requires { ⌜ (at ≤ length (now b)) × ((length (now fault) ≡ 67) × (1 ≤ at)) ⌝ }
+    ensures { λ r. ⌜ ((seen : List ℕ) (room : ℕ) → getD seen 1 0 ≤ at → length seen ≡ 3 → Shows r seen (now (fault .exit)) (length (now (b .entry))) room (fields (layout.rowAt (now (b .entry)) tag at) (place at seen))) ⌝ }
+{
+    settled(rows::row_at(b, tag, at), fault)
+}
+
+// n bytes.
+pub(crate) fn skip(b: &[u8], n: usize, at: usize, fault: &mut [u64; 67]) -> usize
+    requires { ⌜ (at ≤ length (now b)) × ((length (now fault) ≡ 67) × (1 ≤ at)) ⌝ }
+    ensures { λ r. ⌜ ((seen : List ℕ) (room : ℕ) → getD seen 1 0 ≤ at → length seen ≡ 3 → Shows r seen (now (fault .exit)) (length (now (b .entry))) room (pass (now (b .entry)) n (place at seen))) ⌝ }
+{
+    if fields::has(b, at, n) {
+        return at + n;
+    }
+    refuse(numbers::EOF, 0, fault)
+}
+
+pub(crate) fn is_atom(b: &[u8], at: usize) -> bool
+    requires { ⌜ at < length (now b) ⌝ }
+    ensures { λ r. ⌜ r ≡ def.isAtom (now (b .entry)) at ⌝ }
+{
+    let tag = b[at];
+    match tag {
+        100 => true,
+        118 => true,
+        119 => true,
+        _ => false,
+    }
+}
+
+pub(crate) fn is_natural(b: &[u8], most: u64, at: usize) -> bool
+    requires { ⌜ at < length (now b) ⌝ }
+    ensures { λ r. ⌜ r ≡ def.isNatural most (now (b .entry)) at ⌝ }
+{
+    let tag = b[at];
+    if tag == 97 {
+        return at_most(fields::be_u8(b, at + 1), most);
+    }
+    if tag == 98 {
+        return at_most(fields::be_u32(b, at + 1), most);
+    }
+    false
+}
+
+// A number that is there and at most `most`.
+fn at_most(f: Field, most: u64) -> bool
+    ensures { λ r. ⌜ r ≡ def.atMost f most ⌝ }
+{
+    match f {
+        Field::Is(n) => n <= most,
+        Field::Eof => false,
+    }
+}
+
+// The deepest nesting begun, raised to that of the first of n children where it is begun: then leaves among them change it no more.
+pub(crate) fn deepen(
+    b: &[u8],
+    limit: usize,
+    rem: usize,
+    n: usize,
+    from: usize,
+    deep: usize,
+) -> usize
+    requires { ⌜ (limit ≤ cap.nesting) × (rem ≤ limit) ⌝ }
+    ensures same { λ r. ⌜ ((seg : ℕ → ℕ → Segment) (prev last count : ℕ) → kidsOf (def.term (now (b .entry)) limit rem) seg 0 n prev (record { at = from; last = last; begun = count; deepest = deep }) ≡ kidsOf (def.term (now (b .entry)) limit rem) seg 0 n prev (record { at = from; last = last; begun = count; deepest = r })) ⌝ }
+    ensures deep { λ r. ⌜ (¬ (rem ≡ 0) → from < length (now (b .entry)) → ¬ (n ≡ 0) → limit + 1 - rem ≤ r) ⌝ }
+{
+    if n == 0 {
+        return deep;
+    }
+    if rem == 0 {
+        return deep;
+    }
+    if b.len() <= from {
+        return deep;
+    }
+    larger(deep, limit + 1 - rem)
+}
+
+fn larger(x: usize, y: usize) -> usize
+    ensures { λ r. ⌜ r ≡ max x y ⌝ }
+{
+    if x < y { y } else { x }
+}
