@@ -82,7 +82,7 @@ fn last(b: &[u8], from: usize, n: usize, key: Key, name: &[u8]) -> Place
     found
 }
 
-// Whether the key from pos to `end` is equal.
+// Whether the key from `at` to `end` is equal.
 fn equal(b: &[u8], at: usize, end: usize, key: Key, name: &[u8]) -> bool
     requires { ⌜ OneTerm (now b) at × Ends (now b) at end ⌝ }
     ensures { λ r. ⌜ Judges (now (b .entry)) at (keyOf key (now (name .entry))) r ⌝ }
@@ -135,7 +135,7 @@ fn end_of(b: &[u8], start: usize) -> usize
     skip(b, start)
 }
 
-// The same of any term. `owed` terms from pos on are still to be passed: a term's place among them is
+// The same of any term. `owed` terms from `at` on are still to be passed: a term's place among them is
 // taken by its children. Bytes behind children stand only behind one atom, which is passed with them.
 fn skip(b: &[u8], start: usize) -> usize
     requires { ⌜ OneTerm (now b) start ⌝ }

@@ -77,7 +77,7 @@ pub record Short (b : List ℕ) (rem at end : ℕ) : Type 0 where
   pub same : (limit last count deep : ℕ) →
       term b limit rem (record { at = at; last = last; begun = count; deepest = deep }) ≡ done (record { at = end; last = at; begun = count + 1; deepest = max deep (limit + 1 - rem) })
 
--- a rowAt of that tag at pos that ends at end
+-- the row of a tag that stands at a place ends there
 pub record LeafTo (b : List ℕ) (tag at end : ℕ) : Type 0 where
   pub same : rowAt b tag (at + 1) ≡ To end
 
