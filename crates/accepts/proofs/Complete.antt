@@ -9,15 +9,14 @@ use mathlib.Core.List.{List, [], _++_, append-assoc, append-nil}
 use lib.ListN.{length, length-append}
 use borrow.Author.Tests.{lt-ltb, le-leb}
 use Rattle.fields.specs.Be.{be}
-use Rattle.fields.specs.Field.{fieldAt}
-use Rattle.fields.specs.declared.Field.the-variants.{Is}
-use Rattle.fields.proofs.Laws.{is-there}
+use Rattle.fields.specs.Field.{numberAt}
+use Rattle.fields.proofs.Laws.{is-there, number-of}
 use Rattle.rows.specs.Layout as rows
 use Rattle.reading.specs.declared.Kind.{Kind}
 use Rattle.reading.specs.declared.Kind.the-variants as kind
 use Rattle.reading.specs.Reading.{State, Result, done, andThen, entered, moved, begin, fields, pass, sized, counted}
 use Rattle.reading.specs.Terms as terms
-use Rattle.reading.specs.Terms.{byteAt, elems, pair, pairs, required, isAtom, isNatural, atMost, isPid, body, term}
+use Rattle.reading.specs.Terms.{byteAt, elems, pair, pairs, required, isAtom, isNatural, isPid, body, term}
 use Rattle.reading.proofs.Families.{fields-to, pass-on, sized-is, counted-is, required-good, then-done, assoc, is-pid}
 use Rattle.rows.proofs.Laws.{count-in}
 use Rattle.layouts.specs.Tree.{Tree, Forest, node, none, more, leaf, tagOf, count, bytes, bytesAll, size, sizes, depth, depths, Stands}
@@ -189,9 +188,9 @@ module _ (b : List ℕ) (around : ℕ) where
     unfolding bytes
     first (node tag front kids back) p h = byte b p tag _ h
 
-    field : (tag k p : ℕ) (l : List ℕ) → length l ≡ k → Stands b p (bytes (leaf tag l)) → fieldAt k b (p + 1) ≡ Is (be l)
+    field : (tag k p : ℕ) (l : List ℕ) → length l ≡ k → Stands b p (bytes (leaf tag l)) → numberAt k b (p + 1) ≡ be l
     unfolding bytes
-    field tag k p l e h = spells b (p + 1) (left b (p + 1) l _ (behind b p tag _ h)) (record { wide = e; is = refl })
+    field tag k p l e h = number-of k b (p + 1) (spells b (p + 1) (left b (p + 1) l _ (behind b p tag _ h)) (record { wide = e; is = refl }))
 
     -- those that are required: an atom, an integer, a pid
     an-atom : {x : Tree} → Child read x → IsAtom (tagOf x) → Child (required read (isAtom b)) x
@@ -204,7 +203,7 @@ module _ (b : List ℕ) (around : ℕ) where
         go p lay.atom-119 e = rw e
 
     a-natural : {x : Tree} {most : ℕ} → Child read x → IsNatural most x → Laid x → Child (required read (isNatural most b)) x
-    unfolding isNatural atMost
+    unfolding isNatural
     a-natural {most = most} c (lay.natural-97 {l = l} k) (lay.row (lay.small-integer e)) =
         needed (isNatural most b) c (λ p h. rw (first (leaf 97 l) p h, field 97 1 p l e h, le-leb (be l) most k))
     a-natural {most = most} c (lay.natural-98 {l = l} k) (lay.row (lay.integer e)) =

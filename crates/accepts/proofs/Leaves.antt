@@ -2,25 +2,25 @@
 -- to read certain runs of bytes, all of them and no others, and a row is put together of such pieces. Assumes nothing.
 use Prim.Native.Nat.{ℕ, _+_, _≤_}
 use native.Mathlib.Omega.{arith}
-use mathlib.Core.Path.{_≡_, refl, ap, sym, _∙_}
+use mathlib.Core.Path.{_≡_, refl, ap, sym, subst, _∙_}
 use mathlib.Core.Logic.{_↔_}
 use mathlib.Core.List.{List, [], _∷_, _++_, append-nil}
 use mathlib.Core.Bool.{Bool, true, false, cond, _&&_, _||_, and-eq-true-iff}
 use borrow.Author.Tests.{eqb-true, eqb-false, eq-eqb, leb-true, le-leb}
 use lib.Dec.{eqb, leb}
 use lib.ListN.{length, take, drop, length-append}
-use lib.Seq.{drop-length}
+use lib.Seq.{take-length, drop-length}
 use Rattle.fields.specs.Be.{be}
 use Rattle.fields.specs.Field.{fieldAt}
 use Rattle.fields.specs.declared.Field.{Field}
 use Rattle.fields.specs.declared.Field.the-variants as field
 use Rattle.fields.proofs.Laws.{is-there, is-whole, then-is, then-eof}
 use Rattle.utf8.specs.Inner.Find.{goodBytes}
-use Rattle.utf8.specs.Good.{spelled}
-use Rattle.utf8.proofs.Runs.{at-end}
+use Rattle.utf8.specs.Good.{spelled, Utf8}
+use Rattle.utf8.proofs.Runs.{at-end, good-to}
 use Rattle.utf8.proofs.Meaning.{good-bytes}
 use Rattle.utf8.proofs.Unique.{good-unique}
-use Rattle.literal.specs.Trim.{trimmed}
+use Rattle.literal.specs.Inner.Trim.{trimmed}
 use Rattle.literal.specs.Literal.{Literal}
 use Rattle.literal.specs.Inner.Parse.{isLiteral}
 use Rattle.literal.proofs.Meaning.{literal-is}
@@ -35,7 +35,7 @@ use Rattle.rows.proofs.Laws.{bytes-there}
 use Rattle.rows.proofs.Ends.{bytes-to, bytes-within}
 use Rattle.layouts.specs.Tree.{Stands}
 use Rattle.layouts.specs.Layout as layout
-use Rattle.layouts.specs.Layout.{Number, Utf8, NumberText, BitsByte, Leaf}
+use Rattle.layouts.specs.Layout.{Number, NumberText, BitsByte, Leaf}
 use Rattle.layouts.proofs.Stands.{part, stands, empty, both, left, right, spells, number as number-at}
 
 -- a run of bytes behind a tag, which is a row without children and ends at e
@@ -50,20 +50,15 @@ pub record Rowed (b : List ℕ) (tag p e : ℕ) : Type 0 where
 utf8-is : (l : List ℕ) → (eqb (goodBytes l) (length l) ≡ true) ↔ Utf8 l
 utf8-is l = (
   λ e.
-      let g = good-bytes l .spells in
-      let n : drop (goodBytes l) l ≡ [] = rw (eqb-true (goodBytes l) (length l) e) (drop-length l) in
-      record { chars = g .chars; scalars = g .scalars; is = g .front ∙ rw n (append-nil (spelled (g .chars))) },
+      let n : take (goodBytes l) l ≡ l = rw (eqb-true (goodBytes l) (length l) e) (take-length l) in
+      subst Utf8 n (good-bytes l .text),
   λ u.
-      eq-eqb _ _ (good-unique (good-bytes l) (record {
-        spells =
-            record {
-              chars = u .chars;
-              scalars = u .scalars;
-              within = omega arith;
-              front = u .is ∙ sym (append-nil (spelled (u .chars))) ∙ ap (λ (r : List ℕ). spelled (u .chars) ++ r) (sym (drop-length l));
-            };
-        stuck = at-end l (length l) (omega arith);
-      })),
+      eq-eqb _ _ (good-unique (good-bytes l) (good-to (record {
+        chars = u .chars;
+        scalars = u .scalars;
+        within = omega arith;
+        front = u .is ∙ sym (append-nil (spelled (u .chars))) ∙ ap (λ (r : List ℕ). spelled (u .chars) ++ r) (sym (drop-length l));
+      }) (at-end l (length l) (omega arith)))),
 )
 
 bits-is : (n k : ℕ) → (rows.bitsByte n k ≡ true) ↔ BitsByte n k
@@ -238,12 +233,12 @@ module _ (b : List ℕ) where
   string-reads : (p : ℕ) → Reads b p (row.sized 2 b (row.bytes b) p) (Counted 2 (λ n l. length l ≡ n))
   string-reads p = sized-reads 2 p (row.bytes b) (λ n. bytes-reads n (p + 2))
 
-  binary-reads : (p : ℕ) → Reads b p (rows.binary b p) (Counted 4 Short)
-  unfolding rows.binary row.countThen
+  binary-reads : (p : ℕ) → Reads b p (row.counted cap.binary b (row.bytes b) p) (Counted 4 Short)
+  unfolding row.countThen
   binary-reads p = sized-reads 4 p _ (λ n. guard-reads (leb n cap.binary) (row.bytes b n (p + 4)) number.Size (cap-is n cap.binary) (bytes-reads n (p + 4)))
 
-  bits-read : (p : ℕ) → Reads b p (rows.bitString b p) (Counted 4 Bits)
-  unfolding rows.bitString rows.bitsThen row.countThen
+  bits-read : (p : ℕ) → Reads b p (row.counted cap.binary b (rows.bitsThen b) p) (Counted 4 Bits)
+  unfolding rows.bitsThen row.countThen
   bits-read p =
       sized-reads 4 p _ (λ n. guard-reads (leb n cap.binary) _ number.Size (cap-is n cap.binary)
       (sized-reads 1 (p + 4) _ (λ k. guard-reads (rows.bitsByte n k) (row.bytes b n (p + 4 + 1)) number.Bits (bits-is n k) (bytes-reads n (p + 4 + 1)))))

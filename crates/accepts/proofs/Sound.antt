@@ -9,10 +9,10 @@ use lib.Dec.{ltb, leb, eqb}
 use lib.ListN.{length, take, drop, length-append}
 use borrow.Author.Tests.{leb-true, eqb-true}
 use Rattle.fields.specs.Be.{be}
-use Rattle.fields.specs.Field.{fieldAt}
+use Rattle.fields.specs.Field.{fieldAt, numberAt}
 use Rattle.fields.specs.declared.Field.{Field}
 use Rattle.fields.specs.declared.Field.the-variants as field
-use Rattle.fields.proofs.Laws.{is-whole}
+use Rattle.fields.proofs.Laws.{is-whole, number-of}
 use Rattle.numbers.specs.Caps as cap
 use Rattle.rows.specs.Row.{countAt}
 use Rattle.rows.specs.Row as row
@@ -27,7 +27,7 @@ use Rattle.reading.specs.declared.Kind.{Kind}
 use Rattle.reading.specs.declared.Kind.the-variants as kind
 use Rattle.reading.specs.declared.Segment.{Segment}
 use Rattle.reading.specs.Reading.{State, Result, done, no, andThen, entered, moved, begin, fields, pass, sized, counted}
-use Rattle.reading.specs.Terms.{byteAt, elems, pair, pairs, required, isAtom, atMost, isNatural, isPid}
+use Rattle.reading.specs.Terms.{byteAt, elems, pair, pairs, required, isAtom, isNatural, isPid}
 use Rattle.reading.specs.Terms.{smallTuple, largeTuple, list, map, pid, reference, export, captured, function, body, term}
 use Rattle.reading.proofs.Bounds.{ends}
 use Rattle.reading.proofs.Families.{sized-is, sized-eof, counted-is, counted-no}
@@ -158,16 +158,15 @@ module _ (b : List ℕ) where
       (either (eqb (tagOf x) 118) (eqb (tagOf x) 119) (λ e. rw (eqb-true (tagOf x) 118 e) lay.atom-118) (λ e. rw (eqb-true (tagOf x) 119 e) lay.atom-119)))
 
   module _ (most p : ℕ) where
-    low : {k : ℕ} (l m : List ℕ) → Stands b p (l ++ m) → length l ≡ k → atMost (fieldAt k b p) most ≡ true → be l ≤ most
-    unfolding atMost
-    low l m s e h =
-        let i = stand.spells b p (stand.left b p l m s) (record { wide = e; is = refl }) in
+    low : {k : ℕ} (l m : List ℕ) → Stands b p (l ++ m) → length l ≡ k → leb (numberAt k b p) most ≡ true → be l ≤ most
+    low {k} l m s e h =
+        let i = number-of k b p (stand.spells b p (stand.left b p l m s) (record { wide = e; is = refl })) in
         leb-true (be l) most (rw i at h)
 
-    one : {l m : List ℕ} {ts : Forest} → Laid (node 97 l ts m) → Stands b p (l ++ (bytesAll ts ++ m)) → atMost (fieldAt 1 b p) most ≡ true → IsNatural most (node 97 l ts m)
+    one : {l m : List ℕ} {ts : Forest} → Laid (node 97 l ts m) → Stands b p (l ++ (bytesAll ts ++ m)) → leb (numberAt 1 b p) most ≡ true → IsNatural most (node 97 l ts m)
     one (lay.row (lay.small-integer e)) s h = lay.natural-97 (low _ _ s e h)
 
-    four : {l m : List ℕ} {ts : Forest} → Laid (node 98 l ts m) → Stands b p (l ++ (bytesAll ts ++ m)) → atMost (fieldAt 4 b p) most ≡ true → IsNatural most (node 98 l ts m)
+    four : {l m : List ℕ} {ts : Forest} → Laid (node 98 l ts m) → Stands b p (l ++ (bytesAll ts ++ m)) → leb (numberAt 4 b p) most ≡ true → IsNatural most (node 98 l ts m)
     four (lay.row (lay.integer e)) s h = lay.natural-98 (low _ _ s e h)
 
   fits-natural : (most p : ℕ) (x : Tree) → Laid x → Stands b p (bytes x) → isNatural most b p ≡ true → IsNatural most x
@@ -177,7 +176,7 @@ module _ (b : List ℕ) where
       behind : Stands b (p + 1) (l ++ (bytesAll ts ++ m))
       behind = stand.behind b p tag _ s
 
-      go : (y z : Bool) → eqb tag 97 ≡ y → eqb tag 98 ≡ z → cond y (atMost (fieldAt 1 b (p + 1)) most) (cond z (atMost (fieldAt 4 b (p + 1)) most) false) ≡ true →
+      go : (y z : Bool) → eqb tag 97 ≡ y → eqb tag 98 ≡ z → cond y (leb (numberAt 1 b (p + 1)) most) (cond z (leb (numberAt 4 b (p + 1)) most) false) ≡ true →
           IsNatural most (node tag l ts m)
       go true z e f h = let i = eqb-true tag 97 e in rw i (one most (p + 1) (rw i at x) behind h)
       go false true e f h = let i = eqb-true tag 98 f in rw i (four most (p + 1) (rw i at x) behind h)

@@ -5,11 +5,12 @@ use native.Mathlib.Omega.{arith}
 use mathlib.Core.Path.{_≡_, refl, sym}
 use mathlib.Core.List.{List}
 use mathlib.Core.Bool.{Bool, true, false, cond}
-use borrow.Author.Tests.{ltb-true, ltb-false, lt-ltb, le-ltb, eqb-true, eqb-false, ne-eqb}
+use borrow.Author.Tests.{ltb-true, ltb-false, lt-ltb, le-ltb}
 use lib.Dec.{eqb, ltb}
 use lib.ListN.{length, getD}
 use Rattle.numbers.specs.Caps as cap
 use Rattle.numbers.specs.Numbers as number
+use Rattle.numbers.proofs.Laws.{none-of, arm}
 use Rattle.reading.specs.declared.Cause.the-variants as cause
 use Rattle.reading.specs.Reading.{State, Result, reach, begin, refused}
 use Rattle.reading.specs.Terms.{term, body}
@@ -35,28 +36,19 @@ module _ (b : List ℕ) (at begun deepest limit left : ℕ) (here : at < length 
   abbrev Tagged : ℕ → Type 0
   Tagged tag = Agrees b at tag (body child b tag start) (head.term b tag at)
 
-  tagged : (n : ℕ) {tag : ℕ} → Tagged n → (¬ (tag ≡ n) → Tagged tag) → Tagged tag
-  tagged n {tag} hit miss = go (eqb tag n) refl
-    where
-      go : (x : Bool) → eqb tag n ≡ x → Tagged tag
-      go true e = rw (eqb-true tag n e) hit
-      go false e = miss (eqb-false tag n e)
-
-  other : (tag : ℕ) → ¬ (tag ≡ 104) → ¬ (tag ≡ 105) → ¬ (tag ≡ 108) → ¬ (tag ≡ 116) → ¬ (tag ≡ 88) → ¬ (tag ≡ 120) → ¬ (tag ≡ 90) → ¬ (tag ≡ 113) → ¬ (tag ≡ 112) → Tagged tag
-  unfolding head.term hasAtom
-  other tag h₁ h₂ h₃ h₄ h₅ h₆ h₇ h₈ h₉ =
-      by (way.body-row child b tag start h₁ h₂ h₃ h₄ h₅ h₆ h₇ h₈ h₉)
-      (rw (ne-eqb tag 104 h₁, ne-eqb tag 105 h₂, ne-eqb tag 108 h₃, ne-eqb tag 116 h₄, ne-eqb tag 88 h₅, ne-eqb tag 120 h₆, ne-eqb tag 90 h₇, ne-eqb tag 113 h₈, ne-eqb tag 112 h₉))
-      (row.leaf b at begun deepest (record { none = rw (ne-eqb tag 88 h₅, ne-eqb tag 120 h₆, ne-eqb tag 90 h₇) }) here)
-
   by-tag : (tag : ℕ) → Tagged tag
-  unfolding body head.term
+  unfolding body head.term hasAtom
   by-tag tag =
-      tagged 104 (row.small-tuple b at begun deepest limit (suc left) here) (λ h₁. tagged 105 (row.large-tuple b at begun deepest limit (suc left) here) (λ h₂.
-      tagged 108 (row.list b at begun deepest limit (suc left) here) (λ h₃. tagged 116 (row.map b at begun deepest limit (suc left) here) (λ h₄.
-      tagged 88 (atom.pid b at begun deepest limit left) (λ h₅. tagged 120 (atom.port b at begun deepest limit left) (λ h₆. tagged 90 (atom.reference b at begun deepest limit left) (λ h₇.
-      tagged 113 (row.export b at begun deepest limit (suc left) here) (λ h₈. tagged 112 (row.function b at begun deepest limit (suc left) here) (λ h₉.
-      other tag h₁ h₂ h₃ h₄ h₅ h₆ h₇ h₈ h₉)))))))))
+      arm Tagged tag 104 (row.small-tuple b at begun deepest limit (suc left) here)
+      (arm Tagged tag 105 (row.large-tuple b at begun deepest limit (suc left) here)
+      (arm Tagged tag 108 (row.list b at begun deepest limit (suc left) here)
+      (arm Tagged tag 116 (row.map b at begun deepest limit (suc left) here)
+      (arm Tagged tag 88 (atom.pid b at begun deepest limit left)
+      (arm Tagged tag 120 (atom.port b at begun deepest limit left)
+      (arm Tagged tag 90 (atom.reference b at begun deepest limit left)
+      (arm Tagged tag 113 (row.export b at begun deepest limit (suc left) here)
+      (arm Tagged tag 112 (row.function b at begun deepest limit (suc left) here)
+      (λ n. by (search none-of) (search none-of) (row.leaf b at begun deepest (record { none = search none-of }) here)))))))))) (tt {0})
 
 -- at any place
 module _ (b : List ℕ) (at left : ℕ) where

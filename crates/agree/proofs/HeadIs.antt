@@ -5,15 +5,16 @@ use native.Mathlib.Omega.{arith}
 use mathlib.Core.Path.{_≡_, refl, ap, sym, _∙_}
 use mathlib.Core.List.{List}
 use mathlib.Core.Bool.{Bool, true, false, cond, not, _&&_, _||_}
-use borrow.Author.Tests.{ltb-true, ltb-false, eqb-true, eqb-false, ne-eqb}
+use borrow.Author.Tests.{ltb-true, ltb-false, eqb-true}
 use lib.Dec.{eqb, ltb}
-use lib.ListN.{length, getD, List·getD-eq-default}
-use Rattle.fields.specs.Field.{holds, fieldAt, known, numberAt}
+use lib.ListN.{length, getD, take, drop, List·getD-eq-default}
+use Rattle.fields.specs.Field.{holds, fieldAt, numberAt}
 use Rattle.fields.specs.declared.Field.{Field}
 use Rattle.fields.specs.declared.Field.the-variants as field
-use Rattle.fields.proofs.Laws.{then-is, then-eof}
+use Rattle.fields.proofs.Laws.{number-of, then-is, then-eof}
 use Rattle.numbers.specs.Caps as cap
 use Rattle.numbers.specs.Numbers as number
+use Rattle.numbers.proofs.Laws.{by-test, none-of, arm}
 use Rattle.rows.specs.Row as row
 use Rattle.rows.specs.Layout as layout
 use Rattle.rows.specs.declared.Row.{Row}
@@ -29,10 +30,10 @@ use Rattle.reading.proofs.Answers.{starts-long, read-no}
 use Rattle.heads.specs.declared.Value.{Value}
 use Rattle.heads.specs.declared.Value.the-variants as value
 use Rattle.heads.specs.declared.Headed.{Headed}
-use Rattle.heads.specs.Run.{runOf, partOf}
+use Rattle.heads.specs.Inner.Run.{runOf, placed, partOf}
 use Rattle.heads.specs.Inner.Head as head
 use Rattle.heads.specs.Inner.Head.{headAt, partAt}
-use Rattle.agree.specs.Head.{atomAt, lengthBytes, namePlace, nameLength, fieldsAt, atOnce, ownOffset, valueBy, headBy, headOf}
+use Rattle.agree.specs.Head.{atomAt, lengthBytes, namePlace, nameLength, fieldsAt, atOnce, ownOffset, headThen, headOf, runBy, runAt, part}
 use Rattle.agree.specs.Inner.Refusals.{Said, a-value, a-refusal, saidByHead, saidByReading, byTag, asReading}
 use Rattle.agree.proofs.Ways.{leaf-to, leaf-no, fixed-value, named-atom, named-no, node-eof, node-is, head-long, head-past, head-there}
 use Rattle.agree.proofs.AsReading.{heads-as-reading}
@@ -82,14 +83,14 @@ module _ {w : Value} where
     sized k o p f h = go (fieldAt k b p) refl
       where
         go : (x : Field) → fieldAt k b p ≡ x → Fields w (head.sized k b o p f)
-        go (field.Is n) e = by (then-is k b p _ _ e ∙ ap f (sym (ap known e))) h
+        go (field.Is n) e = by (then-is k b p _ _ e ∙ ap f (sym (number-of k b p e))) h
         go field.Eof e = by (then-eof k b p _ _ e) (no number.Eof o 0)
 
     counted : (most o p : ℕ) (f : ℕ → Value) → Fields w (f (numberAt 4 b p)) → Fields w (head.counted most b o p f)
     counted most o p f h = go (row.countAt most b p) refl
       where
         go : (x : Counted) → row.countAt most b p ≡ x → Fields w (head.counted most b o p f)
-        go (count.Is n) e = by (counted-is most b p _ _ e ∙ ap f (sym (ap known (count-is most b p e .0)))) h
+        go (count.Is n) e = by (counted-is most b p _ _ e ∙ ap f (sym (number-of 4 b p (count-is most b p e .0)))) h
         go (count.No n) e = by (counted-no most b p _ _ e) (no n o 0)
 
     leaf : (tag at : ℕ) → head.fixed b tag (at + 1) ≡ w → Fields w (head.rowValue b tag at)
@@ -122,13 +123,6 @@ module _ {w : Value} where
 module _ (b : List ℕ) (at : ℕ) where
   abbrev Tagged : ℕ → Type 0
   Tagged tag = Fields (fieldsAt b tag at) (head.term b tag at)
-
-  tagged : (n : ℕ) {tag : ℕ} → Tagged n → (¬ (tag ≡ n) → Tagged tag) → Tagged tag
-  tagged n {tag} hit miss = go (eqb tag n) refl
-    where
-      go : (x : Bool) → eqb tag n ≡ x → Tagged tag
-      go true e = rw (eqb-true tag n e) hit
-      go false e = miss (eqb-false tag n e)
 
   small-integer : Tagged 97
   unfolding head.term head.fixed fieldsAt
@@ -231,55 +225,32 @@ module _ (b : List ℕ) (at : ℕ) where
       sized b 4 at p _ (sized b 1 at (p + 4) _ (sized b 4 at (p + 21) _ (sized b 4 at (p + 25) _ (is refl refl))))
 
   -- no other tag has a row
-  other : (tag : ℕ) → ¬ (tag ≡ 97) → ¬ (tag ≡ 98) → ¬ (tag ≡ 99) → ¬ (tag ≡ 70) → ¬ (tag ≡ 100) → ¬ (tag ≡ 118) → ¬ (tag ≡ 119) →
-      ¬ (tag ≡ 104) → ¬ (tag ≡ 105) → ¬ (tag ≡ 106) → ¬ (tag ≡ 107) → ¬ (tag ≡ 108) → ¬ (tag ≡ 109) → ¬ (tag ≡ 77) → ¬ (tag ≡ 110) →
-      ¬ (tag ≡ 111) → ¬ (tag ≡ 116) → ¬ (tag ≡ 88) → ¬ (tag ≡ 90) → ¬ (tag ≡ 120) → ¬ (tag ≡ 113) → ¬ (tag ≡ 112) → Tagged tag
-  unfolding head.term layout.rowAt
-  other tag h1 h2 h3 h4 h5 h6 h7 h8 h9 h10 h11 h12 h13 h14 h15 h16 h17 h18 h19 h20 h21 h22 =
-      by (rw (ne-eqb tag 104 h8, ne-eqb tag 105 h9, ne-eqb tag 108 h12, ne-eqb tag 116 h17, ne-eqb tag 88 h18, ne-eqb tag 90 h19, ne-eqb tag 120 h20, ne-eqb tag 113 h21, ne-eqb tag 112 h22))
-      (by
-      (leaf-no b tag at (rw (
-        ne-eqb tag 97 h1,
-        ne-eqb tag 98 h2,
-        ne-eqb tag 99 h3,
-        ne-eqb tag 70 h4,
-        ne-eqb tag 100 h5,
-        ne-eqb tag 118 h6,
-        ne-eqb tag 119 h7,
-        ne-eqb tag 106 h10,
-        ne-eqb tag 107 h11,
-        ne-eqb tag 109 h13,
-        ne-eqb tag 77 h14,
-        ne-eqb tag 110 h15,
-        ne-eqb tag 111 h16,
-      )))
-      (no number.Tag at 0))
-
   by-tag : (tag : ℕ) → Tagged tag
+  unfolding head.term layout.rowAt
   by-tag tag =
-      tagged 97 small-integer (λ h1.
-      tagged 98 integer (λ h2.
-      tagged 99 number-text (λ h3.
-      tagged 70 double (λ h4.
-      tagged 100 old-atom (λ h5.
-      tagged 118 atom (λ h6.
-      tagged 119 small-atom (λ h7.
-      tagged 104 small-tuple (λ h8.
-      tagged 105 large-tuple (λ h9.
-      tagged 106 nil (λ h10.
-      tagged 107 string (λ h11.
-      tagged 108 list (λ h12.
-      tagged 109 binary (λ h13.
-      tagged 77 bit-string (λ h14.
-      tagged 110 small-big (λ h15.
-      tagged 111 large-big (λ h16.
-      tagged 116 map (λ h17.
-      tagged 88 pid (λ h18.
-      tagged 90 reference (λ h19.
-      tagged 120 port (λ h20.
-      tagged 113 export (λ h21.
-      tagged 112 function (λ h22.
-      other tag h1 h2 h3 h4 h5 h6 h7 h8 h9 h10 h11 h12 h13 h14 h15 h16 h17 h18 h19 h20 h21 h22))))))))))))))))))))))
+      arm Tagged tag 97 small-integer
+      (arm Tagged tag 98 integer
+      (arm Tagged tag 99 number-text
+      (arm Tagged tag 70 double
+      (arm Tagged tag 100 old-atom
+      (arm Tagged tag 118 atom
+      (arm Tagged tag 119 small-atom
+      (arm Tagged tag 104 small-tuple
+      (arm Tagged tag 105 large-tuple
+      (arm Tagged tag 106 nil
+      (arm Tagged tag 107 string
+      (arm Tagged tag 108 list
+      (arm Tagged tag 109 binary
+      (arm Tagged tag 77 bit-string
+      (arm Tagged tag 110 small-big
+      (arm Tagged tag 111 large-big
+      (arm Tagged tag 116 map
+      (arm Tagged tag 88 pid
+      (arm Tagged tag 90 reference
+      (arm Tagged tag 120 port
+      (arm Tagged tag 113 export
+      (arm Tagged tag 112 function
+      (λ n. by (search none-of) (by (leaf-no b tag at (search none-of)) (no number.Tag at 0)))))))))))))))))))))))) (tt {0})
 
 -- ---- a head is what is said of it
 
@@ -299,27 +270,34 @@ module _ (w : Value) where
 abbrev headed : ℕ → Value → Headed
 headed t v = record { tag = t; value = v }
 
+-- where reading answers a
+abbrev headBy : List ℕ → ℕ → Answer → Headed
+headBy b at a = headed (cond (ltb cap.input (length b)) 0 (getD b at 0)) (headThen value.No (λ tag. fieldsAt b tag at) b at a)
+
 module _ (b : List ℕ) (at : ℕ) where
   abbrev tag : ℕ
   tag = getD b at 0
 
-  by-tag-is : (a : Answer) → valued (fieldsAt b tag at) (byTag b tag at a) ≡ valueBy b tag at a
-  unfolding valued byTag saidByReading valueBy
+  -- an input that isn't too long
+  abbrev valueBy : Answer → Value
+  valueBy a = cond (atOnce b tag at) (value.No number.Tag (atomAt tag at) 0) (cond (not (eqb (a .number) 0) && ownOffset tag at (a .offset)) (value.No (a .number) (a .offset) (a .extra)) (fieldsAt b tag at))
+
+  by-tag-is : (a : Answer) → valued (fieldsAt b tag at) (byTag b tag at a) ≡ valueBy a
+  unfolding valued byTag saidByReading
   by-tag-is a = turned _ (atOnce b tag at) _ _ ∙ ap (cond (atOnce b tag at) (value.No number.Tag (atomAt tag at) 0)) (refused-or _ (eqb (a .number) 0) (ownOffset tag at (a .offset)) _ _ _)
 
   module _ (limit : ℕ) (few : 2 ≤ limit) (most : limit ≤ cap.nesting) where
     abbrev a : Answer
     a = readAt b at limit
 
-    -- an input that isn't too long
-    value-is : ltb cap.input (length b) ≡ false → {t : ℕ} {v : Value} → headAt b at ≡ headed t v → Fields (fieldsAt b tag at) v → v ≡ valueBy b tag at a
+    value-is : ltb cap.input (length b) ≡ false → {t : ℕ} {v : Value} → headAt b at ≡ headed t v → Fields (fieldsAt b tag at) v → v ≡ valueBy a
     unfolding asReading
     value-is e {t} {v} h f =
         let s : saidByHead v ≡ byTag b tag at a = ap (λ (x : Headed). saidByHead (x .value)) (sym h) ∙ heads-as-reading b at limit few most ∙ rw e in
         f .fields ∙ ap (valued (fieldsAt b tag at)) s ∙ by-tag-is a
 
     pub head-by : headAt b at ≡ headBy b at a
-    unfolding headBy
+    unfolding headThen
     head-by = go (ltb cap.input (length b)) (ltb at (length b)) refl refl
       where
         go : (x y : Bool) → ltb cap.input (length b) ≡ x → ltb at (length b) ≡ y → headAt b at ≡ headBy b at a
@@ -332,13 +310,48 @@ module _ (b : List ℕ) (at : ℕ) where
         go false false e f =
             let h = head-past b at (ltb-false cap.input (length b) e) (ltb-false at (length b) f) in
             let z : 0 ≡ tag = sym (List·getD-eq-default b 0 {n = at} (ltb-false at (length b) f)) in
-            h ∙ ap (headed 0) (value-is e h (no number.Eof at 0)) ∙ ap (λ (t : ℕ). headed t (valueBy b tag at a)) z ∙ rw e
+            h ∙ ap (headed 0) (value-is e h (no number.Eof at 0)) ∙ ap (λ (t : ℕ). headed t (valueBy a)) z ∙ rw e
 
 pub head-is : (b : List ℕ) (at : ℕ) → headAt b at ≡ headOf b at
 unfolding headOf
 head-is b at = head-by b at cap.nesting (omega arith) (omega arith)
 
--- "A second call returns an atom's or binary's (tag 109) part of the input": of what a head answers
-pub part-is : (b : List ℕ) (at : ℕ) → partAt b at ≡ partOf b (runOf (headOf b at .value))
-unfolding partAt
-part-is b at = ap (λ (h : Headed). partOf b (runOf (h .value))) (head-is b at)
+-- ---- the second call
+
+module _ (b : List ℕ) (at : ℕ) where
+  abbrev named-at : Value → ℕ × ℕ
+  named-at v = placed (runOf v)
+
+  abbrev None : Value → Type 0
+  None v = named-at v ≡ (0, 0)
+
+  -- what a row's fields name, by the tag
+  row-run : (tag : ℕ) → named-at (fieldsAt b tag at) ≡ runBy b at tag
+  unfolding fieldsAt runBy
+  row-run tag = go (eqb tag 100) (eqb tag 118) (eqb tag 119) (eqb tag 109) refl refl refl refl
+    where
+      go : (x y z w : Bool) → eqb tag 100 ≡ x → eqb tag 118 ≡ y → eqb tag 119 ≡ z → eqb tag 109 ≡ w → named-at (fieldsAt b tag at) ≡ runBy b at tag
+      go true y z w e f g h = rw (eqb-true tag 100 e)
+      go false true z w e f g h = rw (eqb-true tag 118 f)
+      go false false true w e f g h = rw (eqb-true tag 119 g)
+      go false false false true e f g h = rw (eqb-true tag 109 h)
+      go false false false false e f g h =
+          rw (e, f, g, h)
+          (by-test None (eqb tag 97) _ _ refl (by-test None (eqb tag 98) _ _ refl (by-test None (eqb tag 99) _ _ refl (by-test None (eqb tag 70) _ _ refl
+          (by-test None (eqb tag 104) _ _ refl (by-test None (eqb tag 105) _ _ refl (by-test None (eqb tag 106) _ _ refl (by-test None (eqb tag 107) _ _ refl
+          (by-test None (eqb tag 108) _ _ refl (by-test None (eqb tag 77) _ _ refl (by-test None (eqb tag 110) _ _ refl (by-test None (eqb tag 111) _ _ refl
+          (by-test None (eqb tag 116) _ _ refl (by-test None (eqb tag 88) _ _ refl (by-test None (eqb tag 90) _ _ refl (by-test None (eqb tag 120) _ _ refl
+          (by-test None (eqb tag 113) _ _ refl refl)))))))))))))))))
+
+  -- a test whose ways both name a run
+  which : (t : Bool) (v w : Value) → named-at (cond t v w) ≡ cond t (named-at v) (named-at w)
+  which true v w = refl
+  which false v w = refl
+
+  pub run-is : named-at (headOf b at .value) ≡ runAt b at
+  unfolding headOf runAt headThen
+  run-is = rw (which, which, which, row-run (getD b at 0))
+
+pub part-is : (b : List ℕ) (at : ℕ) → partAt b at ≡ part b at
+unfolding partAt partOf part
+part-is b at = ap (λ (h : Headed). partOf b (runOf (h .value))) (head-is b at) ∙ ap (λ (r : ℕ × ℕ). take (r .1) (drop (r .0) b)) (run-is b at)

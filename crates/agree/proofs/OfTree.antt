@@ -9,7 +9,8 @@ use mathlib.Core.Bool.{true}
 use lib.ListN.{length, getD, take, drop, length-append, length-drop}
 use lib.Seq.{take-length, drop-drop}
 use Rattle.fields.specs.Be.{be, beAt}
-use Rattle.fields.specs.Field.{fieldAt, known, numberAt}
+use Rattle.fields.specs.Field.{fieldAt, numberAt}
+use Rattle.fields.proofs.Laws.{number-of}
 use Rattle.fields.specs.declared.Field.the-variants as field
 use Rattle.fields.proofs.Laws.{is-there, then-is}
 use Rattle.numbers.specs.Caps as cap
@@ -41,7 +42,7 @@ module _ (b : List ℕ) (p : ℕ) {l : List ℕ} (s : Stands b p l) where
   field-in k i q e h = field-there k b q (omega (arith, s .inside)) ∙ ap (λ (r : List ℕ). field.Is (be r)) (run-in k i q e h)
 
   number-in : (k i q : ℕ) → q ≡ p + i → i + k ≤ length l → numberAt k b q ≡ beAt k l i
-  number-in k i q e h = ap known (field-in k i q e h)
+  number-in k i q e h = number-of k b _ (field-in k i q e h)
 
   sized-in : (k i o q : ℕ) (f : ℕ → Value) → q ≡ p + i → i + k ≤ length l → head.sized k b o q f ≡ f (beAt k l i)
   sized-in k i o q f e h = then-is k b q _ _ (field-in k i q e h)
@@ -49,7 +50,7 @@ module _ (b : List ℕ) (p : ℕ) {l : List ℕ} (s : Stands b p l) where
 module _ (b : List ℕ) (p : ℕ) where
   -- a length of k bytes, i bytes more, and as many as the length says
   length-in : {k m : ℕ} (i : ℕ) (n r : List ℕ) → Number k n m → length r ≡ m + i → Stands b p (n ++ r) → numberAt k b p ≡ length (drop (k + i) (n ++ r))
-  length-in {k} {m} i n r w e s = ap known (spells b p (left b p n r s) w) ∙ simp (length-drop, length-append) (omega (arith, w .wide))
+  length-in {k} {m} i n r w e s = number-of _ b p (spells b p (left b p n r s) w) ∙ simp (length-drop, length-append) (omega (arith, w .wide))
 
   -- the rows without children
   fixed-is : {tag : ℕ} {l : List ℕ} → Leaf tag l → Stands b p l → head.fixed b tag p ≡ fieldsBy tag l none [] p

@@ -16,13 +16,18 @@ use Rattle.heads.specs.declared.Value.the-variants as value
 use Rattle.layouts.specs.Tree.{Tree, Forest, node, tagOf, bytes, bytesAll, Stands}
 use Rattle.layouts.specs.Layout as layout
 use Rattle.layouts.specs.Layout.{Number, Laid}
-use Rattle.layouts.specs.Values.{IsBig, bySign, bigInteger, integers}
+use Rattle.layouts.specs.Values.{bySign, bigInteger, integers}
 use Rattle.layouts.proofs.Stands.{left, right, behind}
 use Rattle.layouts.proofs.Values.{sign-is, digits-are, small-big-is, large-big-is, string-is}
 use Rattle.agree.specs.Head.{headOf}
 use Rattle.agree.specs.Inner.Fields.{bigOf, fieldsBy, fieldsOf}
 use Rattle.agree.proofs.HeadIs.{head-is}
 use Rattle.agree.proofs.OfTree.{head-of-tree}
+
+-- the tags of a big integer
+pub data IsBig : ℕ → Type 0 where
+  big-110 : IsBig 110
+  big-111 : IsBig 111
 
 -- of a tree that stands at `at` in b, its head and its value
 pub record BigAt (b : List ℕ) (at : ℕ) (t : Tree) : Type 0 where

@@ -8,7 +8,7 @@ use lib.Ieee.{binary64, ofBits}
 use lib.ListN.{length, getD, take, drop}
 use Rattle.fields.specs.Be.{signed}
 use Rattle.fields.specs.Field.{numberAt}
-use Rattle.literal.specs.Trim.{trimmed}
+use Rattle.literal.specs.Inner.Trim.{trimmed}
 use Rattle.numbers.specs.Caps as cap
 use Rattle.numbers.specs.Numbers as number
 use Rattle.reading.specs.declared.Answer.{Answer}
@@ -73,21 +73,30 @@ atOnce b tag at = ltb (atomAt tag at) (length b) && hasAtom tag && not (isAtom b
 unfoldable pub ownOffset : ℕ → ℕ → ℕ → Bool
 ownOffset tag at o = eqb o at || hasAtom tag && eqb o (atomAt tag at)
 
--- "It refuses as reading would", where reading answers a: at an offset of its own; else, where reading is refused further on or is Done, it
--- has its fields
-abbrev pub refused : Answer → Value
-refused a = value.No (a .number) (a .offset) (a .extra)
-
-unfoldable pub valueBy : List ℕ → ℕ → ℕ → Answer → Value
-valueBy b tag at a =
-    cond (atOnce b tag at) (value.No number.Tag (atomAt tag at) 0)
-    (cond (not (eqb (a .number) 0) && ownOffset tag at (a .offset)) (refused a) (fieldsAt b tag at))
-
--- "takes bytes and any offset": an input that is too long isn't read at all. The tag is 0 there, and where no byte stands
-unfoldable pub headBy : List ℕ → ℕ → Answer → Headed
-headBy b at a =
+-- "takes bytes and any offset"; "It refuses as reading would", where reading answers a: an input that is too long isn't read at all; at an
+-- offset of its own. Else, where reading is refused further on or is Done, it says what its row does
+unfoldable pub headThen : {A : Type 0} → (refuse : ℕ → ℕ → ℕ → A) → (says : ℕ → A) → List ℕ → ℕ → Answer → A
+headThen refuse says b at a =
     let tag = getD b at 0 in
-    cond (ltb cap.input (length b)) (record { tag = 0; value = refused a }) (record { tag = tag; value = valueBy b tag at a })
+    let refused = refuse (a .number) (a .offset) (a .extra) in
+    cond (ltb cap.input (length b)) refused
+    (cond (atOnce b tag at) (refuse number.Tag (atomAt tag at) 0)
+    (cond (not (eqb (a .number) 0) && ownOffset tag at (a .offset)) refused
+    (says tag)))
 
+-- the tag is 0 where no byte was read
 unfoldable pub headOf : List ℕ → ℕ → Headed
-headOf b at = headBy b at (readAt b at cap.nesting)
+headOf b at = record { tag = cond (ltb cap.input (length b)) 0 (getD b at 0); value = headThen value.No (λ tag. fieldsAt b tag at) b at (readAt b at cap.nesting) }
+
+-- "A second call returns an atom's or binary's (tag 109) part of the input, else an empty part": its place and its length, and its bytes
+unfoldable pub runBy : List ℕ → ℕ → ℕ → ℕ × ℕ
+runBy b at tag =
+    cond (eqb tag 100 || eqb tag 118 || eqb tag 119) (namePlace tag at, nameLength b tag at)
+    (cond (eqb tag 109) (at + 1 + 4, numberAt 4 b (at + 1))
+    (0, 0))
+
+unfoldable pub runAt : List ℕ → ℕ → ℕ × ℕ
+runAt b at = headThen (λ n o x. (0, 0)) (runBy b at) b at (readAt b at cap.nesting)
+
+unfoldable pub part : List ℕ → ℕ → List ℕ
+part b at = take (runAt b at .1) (drop (runAt b at .0) b)

@@ -15,7 +15,8 @@ use Rattle.fields.proofs.Inverse.{is-below}
 use Rattle.numbers.specs.Numbers as number
 use Rattle.cache.specs.declared.Got.{Got}
 use Rattle.cache.specs.declared.Got.the-variants as got
-use Rattle.cache.specs.Names.{storeBytes, Held, name, view, updated}
+use Rattle.cache.specs.Names.{storeBytes}
+use Rattle.cache.specs.Inner.Map.{Held, name, view, updated}
 use Rattle.cache.specs.Header.{Step, Said, refused, nameAt, taken, isNew, longBit, references, flagged, expect, headerOf, headerIn, markedAll, storedAll}
 use Rattle.cache.proofs.Below.{Below}
 use Rattle.cache.proofs.Marks.{marked-length}

@@ -6,20 +6,27 @@ use mathlib.Core.Bool.{cond}
 use lib.Dec.{eqb, leb, ltb}
 use lib.ListN.{length}
 use Rattle.numbers.specs.Caps as cap
-use Rattle.numbers.specs.Numbers.{among, outcome, Shown}
-use Rattle.numbers.proofs.Laws.{listed-shown, by-test}
+use Rattle.numbers.specs.Numbers.{among, Listed}
+use Rattle.numbers.proofs.Laws.{Outcome, done, refused, outcome, Shown, listed-shown, by-test}
 use Rattle.fields.specs.Field.{holds}
 use Rattle.fields.proofs.Laws.{by-then}
 use Rattle.rows.specs.Row as row
 use Rattle.rows.specs.declared.Row.{Row}
 use Rattle.rows.specs.declared.Row.the-variants.{To, No}
-use Rattle.rows.proofs.Outcomes.{name-shown}
-use Rattle.cache.specs.Names.{filled, storeBytes, gotAt, gotOutcome}
+use Rattle.rows.proofs.Outcomes.{rowOutcome, name-shown}
+use Rattle.cache.specs.Names.{filled, storeBytes, gotAt}
 use Rattle.cache.specs.Header.{Said, named, nameAt, taken, isNew, longBit, references, flagged, expect, headerOf, headerIn}
 use Rattle.cache.specs.declared.Got.{Got}
 use Rattle.cache.specs.declared.Got.the-variants as got
 
--- a name
+-- a name: what it comes to, and what a refusal that may be shown bears
+abbrev pub gotOutcome : Got → Outcome
+gotOutcome (got.Name at n) = done
+gotOutcome (got.No n) = refused n
+
+pub got-listed : {g : Got} (n : ℕ) → Shown (gotOutcome g) → g ≡ got.No n → Listed n
+got-listed n h e = rw e at h
+
 abbrev Given : Got → Type 0
 Given g = Shown (gotOutcome g)
 
@@ -36,7 +43,7 @@ module _ (b : List ℕ) where
   unfolding named among
   of-named n p = go (row.name b n p) refl (name-shown b n p)
     where
-      go : (r : Row) → row.name b n p ≡ r → Shown (row.rowOutcome r) → Given (named b n p)
+      go : (r : Row) → row.name b n p ≡ r → Shown (rowOutcome r) → Given (named b n p)
       go (To e) h k = rw h (by-test Given (leb n 255) _ _ tt refl)
       go (No x extra) h k = rw h k
 

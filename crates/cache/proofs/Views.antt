@@ -8,7 +8,8 @@ use borrow.Author.Tests.{eqb-true, eqb-false, eq-eqb}
 use lib.Dec.{eqb}
 use lib.ListN.{length, getD, replicate}
 use Rattle.numbers.specs.Numbers as number
-use Rattle.cache.specs.Names.{slotBytes, storeBytes, filled, nameIn, marked, stored, Held, nothing, name, view, updated, gotAt, partOf}
+use Rattle.cache.specs.Names.{slotBytes, storeBytes, filled, marked, stored, gotAt, partOf}
+use Rattle.cache.specs.Inner.Map.{nameIn, Held, nothing, name, view, updated}
 use Rattle.cache.specs.declared.Got.{Got}
 use Rattle.cache.specs.declared.Got.the-variants as got
 use Rattle.cache.proofs.Below.{Below}

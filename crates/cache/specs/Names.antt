@@ -1,5 +1,5 @@
--- The name cache: which slots are filled, what name each holds, and what storing a name does. Document 01, "Name cache".
-use Prim.Native.Nat.{ℕ, zero, suc, _+_, _*_, _^_, _/_, _%_}
+-- The name cache: which slots are filled, what storing a name does, and what a slot answers. Document 01, "Name cache".
+use Prim.Native.Nat.{ℕ, _+_, _*_, _^_, _/_, _%_}
 use mathlib.Core.List.{List, [], _∷_}
 use mathlib.Core.Bool.{Bool, cond}
 use lib.Bits.{bitOr}
@@ -26,28 +26,7 @@ filled words i = eqb (getD words (i / 64) 0 / 2 ^ (i % 64) % 2) 1
 unfoldable pub countOf : List ℕ → ℕ
 countOf words = ones (getD words 0 0) + ones (getD words 1 0) + ones (getD words 2 0) + ones (getD words 3 0)
 
--- how many of the first n slots are filled
-unfoldable pub filledSlots : List ℕ → ℕ → ℕ
-filledSlots words zero = 0
-filledSlots words (suc n) = filledSlots words n + cond (filled words n) 1 0
-
--- "one length byte, then up to 255 of name"
-unfoldable pub nameIn : List ℕ → ℕ → List ℕ
-nameIn store i = take (getD store (i * slotBytes) 0) (drop (i * slotBytes + 1) store)
-
--- the cache as a map: what a slot holds
-pub data Held : Type 0 where
-  nothing : Held
-  name : List ℕ → Held
-
-unfoldable pub view : (words store : List ℕ) → ℕ → Held
-view words store i = cond (filled words i) (name (nameIn store i)) nothing
-
--- a map in which slot i holds a name
-unfoldable pub updated : (ℕ → Held) → ℕ → List ℕ → ℕ → Held
-updated held i n j = cond (eqb i j) (name n) (held j)
-
--- storing a name: its slot's bit, and its length and bytes. "Slot bytes past the name stay."
+-- storing a name: its slot's bit; and "one length byte, then up to 255 of name". "Slot bytes past the name stay."
 unfoldable pub marked : List ℕ → ℕ → List ℕ
 marked words i = set words (i / 64) (bitOr (getD words (i / 64) 0) (2 ^ (i % 64)))
 
@@ -60,11 +39,6 @@ gotAt words store i =
     cond (eqb (length store) storeBytes)
     (cond (filled words i) (got.Name (i * slotBytes + 1) (getD store (i * slotBytes) 0)) (got.No number.Absent))
     (got.No number.Store)
-
--- what that comes to
-abbrev pub gotOutcome : Got → number.Outcome
-gotOutcome (got.Name at n) = number.done
-gotOutcome (got.No n) = number.refused n
 
 -- "a second call returns the name's part of the store, empty when refused"
 abbrev pub partOf : List ℕ → Got → List ℕ

@@ -1,6 +1,5 @@
 // The requests about the names that headers bring, and their answers as text.
 use crate::answers;
-use crate::values;
 use cache::Cache;
 use cache::Got;
 
@@ -41,7 +40,7 @@ fn filled(c: Cache, store: &[u8], slot: u8, out: &mut [u8], at: usize) -> usize 
         Got::Name(_, _) => {
             let mut put = print::field(out, at, b" ", slot as u64);
             put = print::text(out, put, b"=");
-            values::word(cache::part(c, store, slot), out, put)
+            items::word(cache::part(c, store, slot), out, put)
         }
         Got::No(_) => at,
     }
@@ -56,7 +55,7 @@ pub fn get(c: Cache, store: &[u8], slot: usize, out: &mut [u8], at: usize) -> us
     match g {
         Got::Name(place, n) => {
             let put = named(place, n, out, at);
-            values::word(cache::part(c, store, slot as u8), out, put)
+            items::word(cache::part(c, store, slot as u8), out, put)
         }
         Got::No(number) => print::field(out, at, b"answer=", number),
     }

@@ -9,7 +9,6 @@ use crate::input;
 use crate::names;
 use crate::names::Reached;
 use crate::parts;
-use crate::values;
 use crate::words;
 use cache::Cache;
 ghost use Prim.Native.Nat.{_≤_};
@@ -88,7 +87,7 @@ fn answer(l: Line, b: &[u8], run: &mut [u32], out: &mut [u8], at: usize) -> usiz
         Asked::Literal => answers::literal(b, out, at),
         Asked::First => parts::first(b, out, at),
         Asked::Next => parts::next(b, out, at),
-        Asked::Head => values::head(b, l.first, out, at),
+        Asked::Head => items::head(b, l.first, out, at),
         Asked::Read => answers::read(b, l.first, l.second, out, at),
         Asked::Tape => cells::tape(b, l.first, l.second, run, out, at),
         Asked::Name => answers::find_name(b, l.first, l.second, l.third, out, at),

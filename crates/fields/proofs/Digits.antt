@@ -1,12 +1,13 @@
 -- Digits that are least first: they spell what they do in the other order from the most on, as many of them as there are bytes hold, and
 -- not less than their top one is worth. Assumes nothing.
-use Prim.Native.Nat.{ℕ, suc, _+_, _-_, _*_, _^_, _≤_, _<_}
+use Prim.Native.Nat.{ℕ, suc, _-_, _^_, _≤_, _<_}
 use native.Mathlib.Nat.{pow-suc}
 use native.Mathlib.Omega.{arith}
 use mathlib.Core.Path.{_≡_, refl}
 use mathlib.Core.List.{List, [], _∷_, reverse, reverse-cons}
 use lib.ListN.{length, getD}
-use Rattle.fields.specs.Be.{be, le, Bytes, none, more}
+use Rattle.fields.specs.Be.{be, le}
+use Rattle.fields.specs.Inner.Be.{Bytes, none, more}
 use Rattle.fields.proofs.Laws.{be-append}
 
 pub le-reverse : (s : List ℕ) → le s ≡ be (reverse s)

@@ -1,16 +1,18 @@
 -- `be` and `bytesOf` are each other's inverse, so that k bytes and the numbers below 256 ^ k are the same thing. Assumes nothing.
-use Prim.Native.Nat.{ℕ, zero, suc, _+_, _*_, _^_, _/_, _%_, _<_}
+use Prim.Native.Nat.{ℕ, zero, suc, _+_, _^_, _%_, _<_}
 use native.Mathlib.Nat.{add-zero, pow-suc, one-le-pow, mul-le-mul-right, mod-lt, mod-eq-of-lt, div-eq-of-lt, div-add-mod', mul-add-div-right, mul-add-mod-self-right}
 use native.Mathlib.Omega.{arith}
 use mathlib.Core.Path.{_≡_, refl, ap, sym, subst, _∙_}
 use mathlib.Core.List.{List, [], _∷_}
 use lib.ListN.{length, getD, take, drop, length-drop}
 use lib.Seq.{length-take-le, getD-drop}
-use Rattle.fields.specs.Be.{be, beAt, bytesOf, Bytes, none, more}
-use Rattle.fields.specs.Field.{fieldAt, known, numberAt}
+use Rattle.fields.specs.Be.{be, beAt}
+use Rattle.fields.specs.Inner.Be.{bytesOf, Bytes, none, more}
+use Rattle.fields.specs.Field.{fieldAt, numberAt}
+use Rattle.fields.specs.Inner.Field.{known}
 use Rattle.fields.specs.declared.Field.{Field}
 use Rattle.fields.specs.declared.Field.the-variants as field
-use Rattle.fields.proofs.Laws.{is-whole}
+use Rattle.fields.proofs.Laws.{is-whole, known-is}
 
 places : (k : ℕ) → 0 < 256 ^ k
 places k = one-le-pow k 256 (omega arith)
@@ -63,8 +65,8 @@ is-below k b at {n} h e =
 -- a number that was read, with a bound by its width
 pub number-is : (k : ℕ) (b : List ℕ) (at : ℕ) {f : Field} {r : ℕ} → ((i : ℕ) → getD b i 0 < 256) → f ≡ fieldAt k b at → r ≡ known f → (r ≡ numberAt k b at) × (r < 256 ^ k)
 number-is k b at {f} {r} h e q =
-    let i : r ≡ numberAt k b at = q ∙ ap known e in
-    (i, subst (λ (n : ℕ). n < 256 ^ k) (sym i) (go (fieldAt k b at) refl))
+    let i : r ≡ known (fieldAt k b at) = q ∙ ap known e in
+    (i ∙ known-is k b at, subst (λ (n : ℕ). n < 256 ^ k) (sym i) (go (fieldAt k b at) refl))
   where
     go : (f : Field) → fieldAt k b at ≡ f → known f < 256 ^ k
     go (field.Is n) e = is-below k b at h e

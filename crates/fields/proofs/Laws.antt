@@ -1,12 +1,11 @@
 -- Laws of the definitions of specs/, for the proofs here and in the crates above. Assumes nothing.
-use Prim.Native.Nat.{ℕ, zero, suc, _+_, _-_, _*_, _^_, _<_, _≤_}
-use native.Mathlib.Nat.{pow-zero, mul-assoc, add-mul, add-assoc, mul-comm}
-use native.Mathlib.Numerals.{add-one}
+use Prim.Native.Nat.{ℕ, suc, _+_, _-_, _*_, _^_, _<_, _≤_}
+use native.Mathlib.Nat.{mul-assoc, add-mul}
 use native.Mathlib.Omega.{arith}
 use mathlib.Core.Path.{_≡_, refl, ap, sym, _∙_}
 use mathlib.Core.Logic.{_↔_}
 use mathlib.Core.List.{List, [], _∷_, _++_}
-use lib.ListN.{length, take, drop, getD, length-append, length-drop}
+use lib.ListN.{length, drop, getD, length-append, length-drop}
 use lib.Pow.{pow-add}
 use lib.Dec.{leb}
 use lib.IntN.{ℤ, pos, negsuc, _-ℤ_}
@@ -14,14 +13,13 @@ use lib.Signed.{mag}
 use mir.Syntax.{w64}
 use mir.Val.{toZ}
 use borrow.Author.Tests.{leb-true, leb-false, le-leb, lt-leb, lt-ltb, le-ltb}
-use mathlib.Core.Bool.{Bool, true, false, cond}
+use mathlib.Core.Bool.{Bool, true, false}
 use lib.Seq.{length-take-le, take-add, drop-drop, drop-cons}
-use Rattle.numbers.specs.Numbers.{among, Shown}
 use Rattle.fields.specs.Be.{be, beAt, signed}
-use Rattle.fields.specs.Field.{holds, fieldAt, integerAt, numberThen, known, numberAt, fieldOutcome, integerOutcome}
+use Rattle.fields.specs.Field.{holds, fieldAt, integerAt, numberThen, numberAt}
+use Rattle.fields.specs.Inner.Field.{known}
 use Rattle.fields.specs.declared.Field.{Field}
 use Rattle.fields.specs.declared.Field.the-variants as field
-use Rattle.fields.specs.declared.Integer.{Integer}
 use Rattle.fields.specs.declared.Integer.the-variants as integer
 
 -- a run behind another is worth its own number, and shifts the first by its bytes
@@ -74,8 +72,18 @@ module _ (k : ℕ) (b : List ℕ) (at : ℕ) where
 
   -- a number that is known to be there
   pub at-there : at + k ≤ length b → numberAt k b at ≡ beAt k b at
-  unfolding fieldAt
   at-there h = rw (is-there h)
+
+  pub known-is : known (fieldAt k b at) ≡ numberAt k b at
+  unfolding fieldAt
+  known-is = go (holds k b at) refl
+    where
+      go : (t : Bool) → holds k b at ≡ t → known (fieldAt k b at) ≡ numberAt k b at
+      go true h = rw h
+      go false h = rw h
+
+  pub number-of : {n : ℕ} → fieldAt k b at ≡ field.Is n → numberAt k b at ≡ n
+  number-of e = sym known-is ∙ ap known e
 
   -- what comes behind a number that is there, and what is said where it isn't
   module _ {A : Type 0} (missing : A) (f : ℕ → ℕ → A) where
@@ -103,17 +111,6 @@ module _ (b : List ℕ) (at : ℕ) where
   pub integer-eof : holds 4 b at ≡ false → integer.Eof ≡ integerAt b at
   unfolding integerAt
   integer-eof h = rw h
-
--- their one refusal is in the list
-pub field-shown : (x : Field) → Shown (fieldOutcome x)
-unfolding among
-field-shown (field.Is n) = tt
-field-shown field.Eof = refl
-
-pub integer-shown : (x : Integer) → Shown (integerOutcome x)
-unfolding among
-integer-shown (integer.Is z) = tt
-integer-shown integer.Eof = refl
 
 -- two's complement of 4 bytes: 0 or more just where the number as it stands is at most 2 ^ 31 - 1, and else negative
 module _ (n : ℕ) (fits : n < 4294967296) where

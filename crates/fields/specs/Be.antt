@@ -1,6 +1,6 @@
 -- Numbers as the format writes them: "Numbers are big-endian" (document 01), and the digits of a big integer are "least first". Definitions
 -- over lists of bytes alone.
-use Prim.Native.Nat.{ℕ, zero, suc, _+_, _*_, _^_, _/_, _%_, _<_}
+use Prim.Native.Nat.{ℕ, _+_, _*_, _^_}
 use mathlib.Core.List.{List, [], _∷_}
 use mathlib.Core.Bool.{cond}
 use lib.ListN.{length, take, drop}
@@ -16,16 +16,6 @@ be (x ∷ s) = x * 256 ^ length s + be s
 unfoldable pub le : List ℕ → ℕ
 le [] = 0
 le (x ∷ s) = x + 256 * le s
-
--- a number below 256 ^ k in k bytes, the one worth most first
-unfoldable pub bytesOf : ℕ → ℕ → List ℕ
-bytesOf zero n = []
-bytesOf (suc k) n = n / 256 ^ k ∷ bytesOf k (n % 256 ^ k)
-
--- every element is a byte
-pub data Bytes : List ℕ → Type 0 where
-  none : Bytes []
-  more : {x : ℕ} {s : List ℕ} → x < 256 → Bytes s → Bytes (x ∷ s)
 
 -- the number that the k bytes from `at` on spell
 unfoldable pub beAt : ℕ → List ℕ → ℕ → ℕ

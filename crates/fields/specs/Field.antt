@@ -9,7 +9,6 @@ use Rattle.fields.specs.declared.Field.{Field}
 use Rattle.fields.specs.declared.Field.the-variants as field
 use Rattle.fields.specs.declared.Integer.{Integer}
 use Rattle.fields.specs.declared.Integer.the-variants as integer
-use Rattle.numbers.specs.Numbers as number
 
 -- whether the k bytes from `at` on are all there
 unfoldable pub holds : ℕ → List ℕ → ℕ → Bool
@@ -32,18 +31,5 @@ numberThen {A} missing k b f p = go (fieldAt k b p)
     go field.Eof = missing
 
 -- the number alone; 0 where it is missing, which is for a place where it is known to be there
-abbrev pub known : Field → ℕ
-known (field.Is n) = n
-known field.Eof = 0
-
 abbrev pub numberAt : ℕ → List ℕ → ℕ → ℕ
-numberAt k b p = known (fieldAt k b p)
-
--- what each comes to
-abbrev pub fieldOutcome : Field → number.Outcome
-fieldOutcome (field.Is n) = number.done
-fieldOutcome field.Eof = number.refused number.Eof
-
-abbrev pub integerOutcome : Integer → number.Outcome
-integerOutcome (integer.Is z) = number.done
-integerOutcome integer.Eof = number.refused number.Eof
+numberAt k b at = cond (holds k b at) (beAt k b at) 0

@@ -1,2 +1,3 @@
 pub mod Be
 pub mod Field
+pub mod Inner

@@ -10,7 +10,8 @@ ghost use mathlib.Core.Path.{_≡_};
 ghost use Prim.Native.Nat.{_+_, _<_, _≤_};
 ghost use lib.ListN.{length};
 ghost use Rattle.fields.specs.Be.{beAt, signed};
-ghost use Rattle.fields.specs.Field.{holds, fieldAt, integerAt, known, numberAt};
+ghost use Rattle.fields.specs.Field.{holds, fieldAt, integerAt, numberAt};
+ghost use Rattle.fields.specs.Inner.Field.{known};
 
 pub enum Field {
     Is(u64),

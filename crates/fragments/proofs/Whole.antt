@@ -10,7 +10,8 @@ use Rattle.fields.specs.Be.{be, beAt}
 use Rattle.fields.specs.Field.{fieldAt}
 use Rattle.fields.specs.declared.Field.the-variants as field
 use Rattle.fields.proofs.Laws.{is-there, field-is}
-use Rattle.fragments.specs.Fragment.{opened, firstAt, nextAt}
+use Rattle.fragments.specs.Fragment.{firstAt, nextAt}
+use Rattle.fragments.specs.Inner.Opening.{opened}
 use Rattle.fragments.specs.declared.Opening.the-variants as opening
 use Rattle.fragments.proofs.Laws as law
 

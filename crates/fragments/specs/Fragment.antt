@@ -10,27 +10,19 @@ use Rattle.fields.specs.Field.{numberThen}
 use Rattle.numbers.specs.Numbers as number
 use Rattle.fragments.specs.declared.FirstFragment.{FirstFragment}
 use Rattle.fragments.specs.declared.NextFragment.{NextFragment}
-use Rattle.fragments.specs.declared.Opening.{Opening}
-use Rattle.fragments.specs.declared.Opening.the-variants as opening
 
--- Eof: "bytes missing"
-abbrev pub missing : Opening
-missing = opening.No number.Eof 0
+module _ {A : Type 0} (no : (number extra : ℕ) → A) (b : List ℕ) where
+  -- one byte at p that has to be x, and what comes behind it; another is refused as n, whose extra is "that byte"
+  unfoldable pub must : (p x n : ℕ) → A → A
+  must p x n more = numberThen (no number.Eof 0) 1 b (λ y q. cond (eqb y x) more (no n y)) p
 
--- one byte at p that has to be x, and what comes behind it; another is refused as n, whose extra is "that byte"
-unfoldable pub must : List ℕ → (p x n : ℕ) → Opening → Opening
-must b p x n more = numberThen missing 1 b (λ y q. cond (eqb y x) more (opening.No n y)) p
-
--- "two 8-byte numbers"
-unfoldable pub numbers : List ℕ → Opening
-numbers b = numberThen missing 8 b (λ s p. numberThen missing 8 b (λ f q. opening.Numbers s f) p) 2
-
--- what both begin with: "131, tag .., two 8-byte numbers". "Long, then reading left to right"; Version: "fragment's first byte; that
--- byte"; Kind: "not a .. fragment ..; the tag"
-unfoldable pub opened : ℕ → List ℕ → Opening
-opened tag b =
-    cond (ltb cap.input (length b)) (opening.No number.Long 0)
-    (must b 0 131 number.Version (must b 1 tag number.Kind (numbers b)))
+  -- what both begin with: "131, tag .., two 8-byte numbers", and what is said of those. "Long, then reading left to right"; Version:
+  -- "fragment's first byte; that byte"; Kind: "not a .. fragment ..; the tag"
+  unfoldable pub opened : ℕ → (says : (sequence fragment : ℕ) → A) → A
+  opened tag says =
+      cond (ltb cap.input (length b)) (no number.Long 0)
+      (must 0 131 number.Version (must 1 tag number.Kind
+      (numberThen (no number.Eof 0) 8 b (λ s p. numberThen (no number.Eof 0) 8 b (λ f q. says s f) p) 2)))
 
 -- "fragment answers give the rest's offset, 0 when refused"; the values of a refused one are 0 too
 abbrev pub noFirst : ℕ → ℕ → FirstFragment
@@ -41,17 +33,9 @@ noNext n x = record { number = n; extra = x; rest = 0; sequence = 0; fragment = 
 
 -- "131, tag 69, two 8-byte numbers, one byte, rest at 19"
 unfoldable pub firstAt : List ℕ → FirstFragment
-firstAt b = go (opened 69 b)
-  where
-    go : Opening → FirstFragment
-    go (opening.Numbers s f) =
-        numberThen (noFirst number.Eof 0) 1 b (λ n p. record { number = number.Done; extra = 0; rest = p; sequence = s; fragment = f; count = n }) 18
-    go (opening.No n x) = noFirst n x
+firstAt b = opened noFirst b 69 (λ s f.
+    numberThen (noFirst number.Eof 0) 1 b (λ n p. record { number = number.Done; extra = 0; rest = p; sequence = s; fragment = f; count = n }) 18)
 
 -- "131, tag 70, two 8-byte numbers, rest at 18"
 unfoldable pub nextAt : List ℕ → NextFragment
-nextAt b = go (opened 70 b)
-  where
-    go : Opening → NextFragment
-    go (opening.Numbers s f) = record { number = number.Done; extra = 0; rest = 18; sequence = s; fragment = f }
-    go (opening.No n x) = noNext n x
+nextAt b = opened noNext b 70 (λ s f. record { number = number.Done; extra = 0; rest = 18; sequence = s; fragment = f })

@@ -1,1 +1,2 @@
 pub mod Fragment
+pub mod Inner

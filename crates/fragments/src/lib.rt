@@ -7,6 +7,7 @@
 use fields::Field;
 ghost use mathlib.Core.Path.{_≡_};
 ghost use Rattle.fragments.specs.Fragment as spec;
+ghost use Rattle.fragments.specs.Inner.Opening as inner;
 
 // The tags of the first fragment and of a later one.
 const DIST_FRAG_HEADER: u64 = 69;
@@ -101,7 +102,7 @@ fn no_first(number: u64, extra: u64) -> FirstFragment
 
 // What both begin with: 131, the tag, two 8-byte numbers.
 fn opened(b: &[u8], tag: u64) -> Opening
-    ensures { λ r. ⌜ r ≡ spec.opened tag (now (b .entry)) ⌝ }
+    ensures { λ r. ⌜ r ≡ inner.opened tag (now (b .entry)) ⌝ }
 {
     if numbers::INPUT < b.len() {
         return Opening::No(numbers::LONG, 0);
@@ -122,7 +123,7 @@ fn opened(b: &[u8], tag: u64) -> Opening
 }
 
 fn numbers(b: &[u8]) -> Opening
-    ensures { λ r. ⌜ r ≡ spec.numbers (now (b .entry)) ⌝ }
+    ensures { λ r. ⌜ r ≡ inner.numbers (now (b .entry)) ⌝ }
 {
     let Field::Is(sequence) = fields::be_u64(b, 2) else {
         return Opening::No(numbers::EOF, 0);

@@ -12,7 +12,7 @@ use Rattle.utf8.specs.Inner.Find.{goodBytes, goodFrom, charBytes, decode, start
 use Rattle.numbers.specs.Numbers as number
 use Rattle.rows.specs.Row as row
 use Rattle.rows.specs.Layout as layout
-use Rattle.heads.specs.Run.{partOf}
+use Rattle.heads.specs.Inner.Run.{partOf}
 use Rattle.heads.specs.Inner.Head.{no, named, double, big, fixed, rowValue, list, map, node, pidNumbers, pid, reference, term, headAt, partAt}
 use Rattle.heads.specs.declared.Value.the-variants as value
 
@@ -30,11 +30,11 @@ unfolding headAt term rowValue fixed double layout.rowAt row.bytes holds fieldAt
 a-nan = refl
 
 pub all-bits : headAt (77 ∷ 0 ∷ 0 ∷ 0 ∷ 0 ∷ 8 ∷ []) 0 ≡ record { tag = 77; value = value.BitString 6 0 8 }
-unfolding headAt term rowValue fixed layout.rowAt layout.bitString layout.bitsThen layout.bitsByte numberThen row.countThen row.bytes holds fieldAt beAt be
+unfolding headAt term rowValue fixed layout.rowAt layout.bitsThen layout.bitsByte numberThen row.countThen row.bytes holds fieldAt beAt be
 all-bits = refl
 
 pub bits : headAt (77 ∷ 0 ∷ 0 ∷ 0 ∷ 0 ∷ 7 ∷ []) 0 ≡ record { tag = 77; value = no number.Bits 0 }
-unfolding headAt term rowValue layout.rowAt layout.bitString layout.bitsThen layout.bitsByte numberThen row.countThen holds fieldAt beAt be
+unfolding headAt term rowValue layout.rowAt layout.bitsThen layout.bitsByte numberThen row.countThen holds fieldAt beAt be
 bits = refl
 
 -- "nonzero is negative"

@@ -4,7 +4,7 @@ use mathlib.Core.Path.{_≡_, refl}
 use mathlib.Core.List.{List, [], _∷_}
 use denote.Enum.Declared.{tagOf}
 use types.Run.{OneOf, miss}
-use Rattle.heads.specs.Run.{none, runOf, partOf}
+use Rattle.heads.specs.Inner.Run.{none, runOf, partOf}
 use Rattle.heads.specs.Inner.Head.{named}
 use Rattle.heads.specs.declared.Value.{Value}
 use Rattle.heads.specs.declared.Value.the-variants as value

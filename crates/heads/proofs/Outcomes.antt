@@ -5,9 +5,9 @@ use mathlib.Core.List.{List}
 use mathlib.Core.Bool.{_||_}
 use lib.Dec.{eqb, ltb}
 use lib.ListN.{length, getD}
-use Rattle.numbers.specs.Numbers.{among, Shown}
+use Rattle.numbers.specs.Numbers.{among, Listed}
 use Rattle.numbers.specs.Caps as cap
-use Rattle.numbers.proofs.Laws.{by-test}
+use Rattle.numbers.proofs.Laws.{Outcome, done, refused, Shown, by-test}
 use Rattle.fields.specs.Field.{holds}
 use Rattle.fields.proofs.Laws.{by-then}
 use Rattle.rows.specs.Layout as layout
@@ -17,10 +17,24 @@ use Rattle.rows.proofs.Laws.{by-counted}
 use Rattle.rows.proofs.Outcomes as rows
 use Rattle.heads.specs.declared.Value.{Value}
 use Rattle.heads.specs.declared.Headed.{Headed}
-use Rattle.heads.specs.Run.{valueOutcome}
+use Rattle.heads.specs.declared.Value.the-variants as value
+use Rattle.heads.specs.Inner.Run.{Run, name, bytes, refusal, none, runOf}
 use Rattle.heads.specs.Inner.Head.{numberText, double, big, fixed, rowValue, sized, counted, smallTuple, largeTuple, list, map, node, named}
 use Rattle.heads.specs.Inner.Head.{pidNumbers, pid, referenceNumbers, reference, portNumbers, port, function, term, headAt}
 use Rattle.heads.proofs.Laws.{by-run}
+
+-- what an answer comes to, and what a refusal that may be shown bears
+abbrev pub runOutcome : Run → Outcome
+runOutcome (name s n) = done
+runOutcome (bytes s n) = done
+runOutcome (refusal n o x) = refused n
+runOutcome none = done
+
+abbrev pub valueOutcome : Value → Outcome
+valueOutcome v = runOutcome (runOf v)
+
+pub value-listed : {v : Value} (n o x : ℕ) → Shown (valueOutcome v) → v ≡ value.No n o x → Listed n
+value-listed n o x h e = rw e at h
 
 abbrev Fine : Value → Type 0
 Fine v = Shown (valueOutcome v)

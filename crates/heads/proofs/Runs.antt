@@ -9,7 +9,7 @@ use lib.ListN.{length, getD}
 use Rattle.fields.specs.Field.{holds, fieldAt, numberThen, numberAt}
 use Rattle.fields.specs.declared.Field.{Field}
 use Rattle.fields.specs.declared.Field.the-variants as field
-use Rattle.fields.proofs.Laws.{there as present, then-is, then-eof}
+use Rattle.fields.proofs.Laws.{there as present, number-of, then-is, then-eof}
 use Rattle.numbers.specs.Caps as cap
 use Rattle.numbers.specs.Numbers as number
 use Rattle.rows.specs.Row as row
@@ -19,7 +19,7 @@ use Rattle.rows.specs.declared.Row.the-variants.{To, No}
 use Rattle.rows.specs.declared.Counted.{Counted}
 use Rattle.rows.specs.declared.Counted.the-variants as count
 use Rattle.rows.proofs.Laws.{name-to, count-is, counted-is, counted-no}
-use Rattle.heads.specs.Run.{Run, name, bytes, refusal, none, runOf}
+use Rattle.heads.specs.Inner.Run.{Run, name, bytes, refusal, none, runOf}
 use Rattle.heads.specs.Inner.Head.{named, sized, counted, numberText, double, big, fixed, rowValue, smallTuple, largeTuple, list, map, node, pidNumbers, pid, referenceNumbers, reference, portNumbers, port, function, term, headAt}
 use Rattle.heads.specs.declared.Value.{Value}
 use Rattle.heads.specs.declared.Value.the-variants as value
@@ -79,7 +79,7 @@ module _ (b : List ℕ) where
   sized-to k p e f h = go (fieldAt k b p) refl
     where
       go : (x : Field) → fieldAt k b p ≡ x → Sized k p e f
-      go (field.Is n) g = record { then = rw g (sym (then-is k b p _ f g) ∙ h) }
+      go (field.Is n) g = record { then = rw (number-of k b p g) (sym (then-is k b p _ f g) ∙ h) }
       go field.Eof g = differ (sym (then-eof k b p _ f g) ∙ h)
 
   pub text-to : (p e : ℕ) → layout.numberText b p ≡ To e → p + 31 ≤ length b
@@ -95,7 +95,7 @@ module _ (b : List ℕ) where
   counted-to most p e f h = go (row.countAt most b p) refl
     where
       go : (x : Counted) → row.countAt most b p ≡ x → Sized 4 p e f
-      go (count.Is n) g = record { then = rw (count-is most b p g .0) (sym (counted-is most b p _ f g) ∙ h) }
+      go (count.Is n) g = record { then = rw (number-of 4 b p (count-is most b p g .0)) (sym (counted-is most b p _ f g) ∙ h) }
       go (count.No n) g = differ (sym (counted-no most b p _ f g) ∙ h)
 
   -- each row by what it says
@@ -105,8 +105,7 @@ module _ (b : List ℕ) where
   atom-held : (k p : ℕ) → Held b (row.sized k b (row.name b) p) (value.Atom (p + k) (numberAt k b p))
   atom-held k p = record { held = λ e h. record { inside = name-to b _ (p + k) (sized-to k p e (row.name b) h .then) .1 } }
 
-  binary-held : (p : ℕ) → Held b (layout.binary b p) (value.Binary (p + 4) (numberAt 4 b p))
-  unfolding layout.binary
+  binary-held : (p : ℕ) → Held b (row.counted cap.binary b (row.bytes b) p) (value.Binary (p + 4) (numberAt 4 b p))
   binary-held p = record { held = λ e h. record { inside = bytes-to _ (p + 4) e (counted-to cap.binary p e (row.bytes b) h .then) } }
 
   fixed-held : (tag p : ℕ) → Held b (layout.rowAt b tag p) (fixed b tag p)

@@ -1,7 +1,7 @@
 -- What is told of some inputs, as the definitions compute it; each shuts out a wrong call that it names. Assumes nothing.
 use Prim.Native.Nat.{ℕ}
 use native.Mathlib.Omega.{arith}
-use mathlib.Core.Path.{_≡_, refl, ap}
+use mathlib.Core.Path.{_≡_, refl, ap, sym, _∙_}
 use mathlib.Core.Bool.{true}
 use mathlib.Core.List.{List, [], _∷_}
 use lib.ListN.{length, getD, replicate}
@@ -15,8 +15,11 @@ use Rattle.utf8.specs.Inner.Find.{decode, starts, charBytes, goodFrom, goodByte
 use Rattle.numbers.specs.Numbers as number
 use Rattle.rows.specs.Row as row
 use Rattle.rows.specs.Layout as layout
-use Rattle.heads.specs.Run.{runOf}
+use Rattle.heads.specs.declared.Headed.{Headed}
+use Rattle.heads.specs.Inner.Run.{runOf, placed}
 use Rattle.heads.specs.Inner.Head as head
+use Rattle.agree.specs.Head.{runAt}
+use Rattle.agree.proofs.HeadIs.{head-is, run-is}
 use Rattle.cache.specs.declared.Cache.{Cache}
 use Rattle.cache.specs.Names.{storeBytes, filled, countOf, gotAt}
 use Rattle.cache.specs.Header.{headerIn}
@@ -27,14 +30,14 @@ use Rattle.lookup.proofs.Examples as lookup
 use Rattle.fragments.specs.Fragment.{firstAt, nextAt}
 use Rattle.fragments.proofs.Examples.{aFirst, aNext, first-whole, first-version, next-whole, next-kind}
 use Rattle.jig.specs.Shown.{Tells}
-use Rattle.jig.specs.Heads.{partWords}
+use Rattle.headwords.specs.Words.{partWords}
 use Rattle.jig.specs.Names.{nameWords, headerWords}
 use Rattle.jig.specs.Fragments.{firstWords, nextWords}
 
 -- sill_part: the bytes of a string are no part. A call that hands out every run says 3 and 1
-pub string-part : partWords (runOf (head.headAt (107 ∷ 0 ∷ 1 ∷ 97 ∷ []) 0 .value)) ≡ 0 ∷ 0 ∷ []
+pub string-part : partWords (runAt (107 ∷ 0 ∷ 1 ∷ 97 ∷ []) 0) ≡ 0 ∷ 0 ∷ []
 unfolding head.headAt head.term head.rowValue head.fixed layout.rowAt numberThen row.bytes holds fieldAt beAt be
-string-part = refl
+string-part = ap partWords (sym (run-is _ 0) ∙ ap (λ (h : Headed). placed (runOf (h .value))) (sym (head-is (107 ∷ 0 ∷ 1 ∷ 97 ∷ []) 0)))
 
 -- sill_empty: a call that fills the last slot, and one that leaves the words of a cache with names
 abbrev of : List ℕ → Cache

@@ -1,5 +1,4 @@
 pub mod Told
 pub mod Outcomes
-pub mod Twos
 pub mod Parts
 pub mod Examples

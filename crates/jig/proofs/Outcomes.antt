@@ -1,21 +1,28 @@
 -- The first number that a call tells is Done or the number of a refusal, as the answer beneath it is. Assumes nothing.
 use Prim.Native.Nat.{ℕ}
-use mathlib.Core.List.{List}
-use Rattle.numbers.specs.Numbers.{outcome, Shown}
-use Rattle.numbers.proofs.Laws.{listed-shown}
+use mathlib.Core.Path.{subst}
+use mathlib.Core.List.{List, [], _∷_}
+use Rattle.numbers.proofs.Laws.{outcome, Shown, listed-shown}
 use Rattle.reading.specs.declared.Answer.{Answer}
-use Rattle.heads.specs.Run.{valueOutcome}
 use Rattle.heads.specs.Inner.Head.{headAt}
+use Rattle.heads.specs.declared.Headed.{Headed}
 use Rattle.heads.specs.declared.Value.{Value}
 use Rattle.heads.specs.declared.Value.the-variants as value
-use Rattle.heads.proofs.Outcomes.{head-shown}
-use Rattle.cache.specs.Names.{gotAt, gotOutcome}
+use Rattle.heads.proofs.Outcomes.{valueOutcome, head-shown}
+use Rattle.agree.specs.Head.{headOf}
+use Rattle.agree.proofs.HeadIs.{head-is}
+use Rattle.cache.specs.Names.{gotAt}
 use Rattle.cache.specs.declared.Got.{Got}
 use Rattle.cache.specs.declared.Got.the-variants as got
-use Rattle.cache.proofs.Outcomes.{got-shown}
-use Rattle.jig.specs.Shown.{Tells, FirstShown}
-use Rattle.jig.specs.Heads.{valueWords, headWords}
+use Rattle.cache.proofs.Outcomes.{gotOutcome, got-shown}
+use Rattle.jig.specs.Shown.{Tells}
+use Rattle.headwords.specs.Words.{valueWords, headWords}
 use Rattle.jig.specs.Names.{nameWords}
+
+-- numbers told, the first of which is Done or the number of a refusal
+abbrev pub FirstShown : List ℕ → Type 0
+FirstShown [] = ⊥
+FirstShown (n ∷ l) = Shown (outcome n)
 
 pub answer-told : {P : Answer → Type 0} {told old new : List ℕ} → ((r : Answer) → P r → Shown (outcome (r .number))) → Tells P told old new → FirstShown told
 answer-told h t = rw (t .shows) (h (t .answer) (t .promised))
@@ -44,8 +51,8 @@ got-told : (g : Got) → Shown (gotOutcome g) → FirstShown (nameWords g)
 got-told (got.Name p n) h = tt
 got-told (got.No number) h = listed-shown number h
 
-pub head-told : (b : List ℕ) (at : ℕ) → FirstShown (headWords (headAt b at))
-head-told b at = value-told (headAt b at .tag) (headAt b at .value) (head-shown b at)
+pub head-told : (b : List ℕ) (at : ℕ) → FirstShown (headWords (headOf b at))
+head-told b at = subst (λ (h : Headed). FirstShown (headWords h)) (head-is b at) (value-told (headAt b at .tag) (headAt b at .value) (head-shown b at))
 
 pub name-told : (words store : List ℕ) (i : ℕ) → FirstShown (nameWords (gotAt words store i))
 name-told words store i = got-told (gotAt words store i) (got-shown words store i)

@@ -4,7 +4,6 @@ use mathlib.Core.Path.{_≡_}
 use mathlib.Core.List.{List, [], _∷_}
 use lib.ListN.{getD}
 use lib.Seq.{sets}
-use Rattle.numbers.specs.Numbers.{outcome, Shown}
 use Rattle.reading.specs.declared.Answer.{Answer}
 use Rattle.reading.specs.declared.Kind.the-variants.{Tuple}
 use Rattle.reading.specs.declared.Segment.{Segment}
@@ -29,8 +28,3 @@ pub record Tells (P : Answer → Type 0) (told old new : List ℕ) : Type 0 wher
   pub promised : P answer
   pub shows : told ≡ answerWords answer
   pub traces : new ≡ pathWords answer old
-
--- numbers told, the first of which is Done or the number of a refusal
-abbrev pub FirstShown : List ℕ → Type 0
-FirstShown [] = ⊥
-FirstShown (n ∷ l) = Shown (outcome n)

@@ -4,12 +4,9 @@
 // for each kind of answer, how the answer becomes numbers. jig/sillthread.h is the same page for a C program.
 use cache::Cache;
 use cache::Got;
-use heads::Headed;
-use heads::Value;
 use reading::Answer;
 use reading::Segment;
 ghost use mathlib.Core.Path.{_≡_};
-ghost use mathlib.Core.Bool.{cond};
 ghost use Prim.Native.Nat.{_≤_};
 ghost use lib.ListN.{length, replicate};
 ghost use lib.Seq.{sets};
@@ -17,8 +14,7 @@ ghost use Rattle.numbers.specs.Caps as cap;
 ghost use Rattle.utf8.specs.Inner.Find.{goodBytes};
 ghost use Rattle.reading.specs.Answer.{readAt};
 ghost use Rattle.tape.specs.Read.{Promised};
-ghost use Rattle.heads.specs.Run.{runOf};
-ghost use Rattle.heads.specs.Inner.Head.{headAt};
+ghost use Rattle.agree.specs.Head.{headOf, runAt};
 ghost use Rattle.lookup.specs.Lookup.{Looked};
 ghost use Rattle.lookup.specs.Lookup as key;
 ghost use Rattle.cache.specs.Names.{countOf, gotAt};
@@ -26,7 +22,7 @@ ghost use Rattle.cache.specs.Header.{headerIn, storedAll, markedAll};
 ghost use Rattle.fragments.specs.Fragment.{firstAt, nextAt};
 ghost use Rattle.jig.specs.Shown.{answerWords, pathWords, Tells};
 ghost use Rattle.jig.specs.Shown as spec;
-ghost use Rattle.jig.specs.Heads.{twos, headWords, partWords};
+ghost use Rattle.headwords.specs.Words.{headWords, partWords};
 ghost use Rattle.jig.specs.Names.{nameWords, headerWords};
 ghost use Rattle.jig.specs.Fragments.{firstWords, nextWords};
 
@@ -97,19 +93,19 @@ pub extern "C" fn sill_find_number(
 // value in their order, 0 where there are fewer than five: an integer by its two's complement, a double by its bits.
 #[no_mangle]
 pub extern "C" fn sill_head(b: &[u8], at: usize, told: &mut [u64; 9])
-    ensures { λ _. ⌜ now (told .exit) ≡ headWords (headAt (now (b .entry)) at) ⌝ }
+    ensures { λ _. ⌜ now (told .exit) ≡ headWords (headOf (now (b .entry)) at) ⌝ }
 {
     let h = heads::head(b, at);
-    *told = head(h);
+    *told = headwords::words(h);
 }
 
 // Where the bytes of an atom's name or of a binary stand and how many they are, as heads::part hands them out; 0 and 0 for any other head.
 #[no_mangle]
 pub extern "C" fn sill_part(b: &[u8], at: usize, told: &mut [u64; 2])
-    ensures { λ _. ⌜ now (told .exit) ≡ partWords (runOf (headAt (now (b .entry)) at .value)) ⌝ }
+    ensures { λ _. ⌜ now (told .exit) ≡ partWords (runAt (now (b .entry)) at) ⌝ }
 {
     let h = heads::head(b, at);
-    *told = part(h);
+    *told = headwords::place(h);
 }
 
 // A cache with no name in it, as cache::empty says: its four words.
@@ -229,72 +225,6 @@ fn trace(segments: [Segment; numbers::NESTING], n: usize, path: &mut [u64; 128])
         path[i * 2] = reading::kind_number(k);
         path[i * 2 + 1] = s.number;
         i += 1;
-    }
-}
-
-// A head: its fields behind number, tag, offset and extra, and 0 where there are fewer than five.
-fn head(h: Headed) -> [u64; 9]
-    ensures { λ r. ⌜ r ≡ headWords h ⌝ }
-{
-    let tag = h.tag as u64;
-    let value = h.value;
-    match value {
-        Value::Integer(z) => [0, tag, 0, 0, bits(z), 0, 0, 0, 0],
-        Value::NumberText(p, n) => [0, tag, 0, 0, p as u64, n as u64, 0, 0, 0],
-        Value::Double(_, x) => [0, tag, 0, 0, x, 0, 0, 0, 0],
-        Value::Atom(p, n) => [0, tag, 0, 0, p as u64, n as u64, 0, 0, 0],
-        Value::Tuple(n) => [0, tag, 0, 0, n, 0, 0, 0, 0],
-        Value::Nil => [0, tag, 0, 0, 0, 0, 0, 0, 0],
-        Value::String(p, n) => [0, tag, 0, 0, p as u64, n as u64, 0, 0, 0],
-        Value::List(n) => [0, tag, 0, 0, n, 0, 0, 0, 0],
-        Value::Binary(p, n) => [0, tag, 0, 0, p as u64, n as u64, 0, 0, 0],
-        Value::BitString(p, n, k) => [0, tag, 0, 0, p as u64, n as u64, k, 0, 0],
-        Value::Big(p, n, sign, negative) => {
-            [0, tag, 0, 0, p as u64, n as u64, sign, one(negative), 0]
-        }
-        Value::Map(n) => [0, tag, 0, 0, n, 0, 0, 0, 0],
-        Value::Pid(p, n, id, serial, creation) => {
-            [0, tag, 0, 0, p as u64, n as u64, id, serial, creation]
-        }
-        Value::Reference(k, p, n, creation, ids) => {
-            [0, tag, 0, 0, k, p as u64, n as u64, creation, ids as u64]
-        }
-        Value::Port(p, n, id, creation) => [0, tag, 0, 0, p as u64, n as u64, id, creation, 0],
-        Value::Export => [0, tag, 0, 0, 0, 0, 0, 0, 0],
-        Value::Function(size, arity, p, index, free) => {
-            [0, tag, 0, 0, size, arity, p as u64, index, free]
-        }
-        Value::No(number, offset, extra) => [number, tag, offset as u64, extra, 0, 0, 0, 0, 0],
-    }
-}
-
-// A truth as a number.
-fn one(truth: bool) -> u64
-    ensures { λ r. ⌜ r ≡ cond truth 1 0 ⌝ }
-{
-    if truth { 1 } else { 0 }
-}
-
-// Two's complement. No operation takes a negative integer to its bits, so what it is below -1 is taken off the largest word.
-fn bits(z: i64) -> u64
-    ensures { λ r. ⌜ r ≡ twos z ⌝ }
-{
-    if z < 0 {
-        18446744073709551615 - ((-1 - z) as u64)
-    } else {
-        z as u64
-    }
-}
-
-// The bytes of an atom's name or of a binary.
-fn part(h: Headed) -> [u64; 2]
-    ensures { λ r. ⌜ r ≡ partWords (runOf (h .value)) ⌝ }
-{
-    let value = h.value;
-    match value {
-        Value::Atom(p, n) => [p as u64, n as u64],
-        Value::Binary(p, n) => [p as u64, n as u64],
-        _ => [0, 0],
     }
 }
 

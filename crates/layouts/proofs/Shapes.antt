@@ -1,26 +1,28 @@
 -- What shapes say: the shape told by the bytes of a term is its tree's, so that what stands at a place is one tree at most. Assumes nothing.
-use Prim.Native.Nat.{ℕ, _+_, _^_, _≤_, _<_}
+use Prim.Native.Nat.{ℕ, _+_, _≤_, _<_}
 use native.Mathlib.Omega.{arith}
 use mathlib.Core.Path.{_≡_, refl, ap, sym, _∙_, subst}
 use mathlib.Core.List.{List, [], _∷_, _++_}
 use lib.ListN.{length, getD, length-append}
 use mathlib.Core.Bool.{Bool, true, false, cond, _&&_}
-use lib.Dec.{eqb, ltb, leb}
-use borrow.Author.Tests.{lt-ltb, le-ltb, le-leb, lt-leb, eqb-true, eqb-false, ne-eqb}
+use lib.Dec.{ltb, leb}
+use borrow.Author.Tests.{lt-ltb, le-ltb, le-leb, lt-leb}
 use Rattle.numbers.specs.Caps as cap
-use Rattle.fields.specs.Field.{known, numberAt}
+use Rattle.numbers.proofs.Laws.{none-of, arm}
+use Rattle.fields.specs.Field.{numberAt}
+use Rattle.fields.proofs.Laws.{number-of}
 use Rattle.layouts.specs.declared.Shape.{Shape}
-use Rattle.layouts.specs.Tree.{Tree, Forest, node, none, more, leaf, tagOf, frontOf, count, bytes, bytesAll, Stands}
+use Rattle.layouts.specs.Tree.{Tree, Forest, node, none, more, leaf, tagOf, count, bytes, bytesAll, Stands}
 use Rattle.layouts.specs.Layout as layout
 use Rattle.layouts.specs.Layout.{Number, IsAtom, Leaf, Laid, AllLaid}
-use Rattle.layouts.specs.Inner.Shape.{ends, inner, shapeBy, shapeAt, shapeOf, shortBy, shortAt}
+use Rattle.layouts.specs.Inner.Shape.{frontOf, ends, inner, shapeBy, shapeAt, shapeOf, shortBy, shortAt}
 use Rattle.layouts.proofs.Stands.{left, right, byte, behind, spells}
 
 module _ (b : List ℕ) (p : ℕ) where
   -- the shape at a place by its tag, and where there is none
-  pub by-tag : (tag : ℕ) → p < length b → length b ≤ cap.input → getD b p 0 ≡ tag → shapeBy b p tag ≡ shapeAt b p
+  pub by-tag : (tag : ℕ) → (p < length b) × (length b ≤ cap.input) → getD b p 0 ≡ tag → shapeBy b p tag ≡ shapeAt b p
   unfolding shapeAt
-  by-tag tag h l e = rw (lt-ltb p (length b) h, le-leb (length b) cap.input l, e)
+  by-tag tag h e = rw (lt-ltb p (length b) (h .0), le-leb (length b) cap.input (h .1), e)
 
   pub past : length b ≤ p → ends p ≡ shapeAt b p
   unfolding shapeAt
@@ -31,9 +33,9 @@ module _ (b : List ℕ) (p : ℕ) where
   large h l = rw (lt-ltb p (length b) h, lt-leb (length b) cap.input l)
 
   -- and the short way
-  pub short-tag : (tag : ℕ) → p < length b → length b ≤ cap.input → getD b p 0 ≡ tag → shortBy b p tag ≡ shortAt b p
+  pub short-tag : (tag : ℕ) → (p < length b) × (length b ≤ cap.input) → getD b p 0 ≡ tag → shortBy b p tag ≡ shortAt b p
   unfolding shortAt
-  short-tag tag h l e = rw (lt-ltb p (length b) h, le-leb (length b) cap.input l, e)
+  short-tag tag h e = rw (lt-ltb p (length b) (h .0), le-leb (length b) cap.input (h .1), e)
 
   pub short-past : length b ≤ p → 0 ≡ shortAt b p
   unfolding shortAt
@@ -49,16 +51,13 @@ module _ (b : List ℕ) (p : ℕ) where
   by-tags : (t : ℕ) → Short t
   unfolding shortBy shapeBy
   by-tags t =
-      tagged t 97 (λ _. refl) (λ h₁. tagged t 98 (λ _. refl) (λ h₂. tagged t 70 (λ _. refl) (λ h₃.
-      tagged t 106 (λ _. refl) (λ h₄. tagged t 119 (λ _. refl) (λ h₅. tagged t 109 (λ _. refl) (λ h₆ k.
-      absurd (k (rw (ne-eqb t 97 h₁, ne-eqb t 98 h₂, ne-eqb t 70 h₃, ne-eqb t 106 h₄, ne-eqb t 119 h₅, ne-eqb t 109 h₆)))))))))
-    where
-      tagged : (t n : ℕ) → Short n → (¬ (t ≡ n) → Short t) → Short t
-      tagged t n hit miss = go (eqb t n) refl
-        where
-          go : (x : Bool) → eqb t n ≡ x → Short t
-          go true e = rw (eqb-true t n e) hit
-          go false e = miss (eqb-false t n e)
+      arm Short t 97 (λ _. refl)
+      (arm Short t 98 (λ _. refl)
+      (arm Short t 70 (λ _. refl)
+      (arm Short t 106 (λ _. refl)
+      (arm Short t 119 (λ _. refl)
+      (arm Short t 109 (λ _. refl)
+      (λ n k. absurd (k (search none-of)))))))) (tt {0})
 
   pub short-is : ¬ (shortAt b p ≡ 0) → shapeAt b p ≡ ends (shortAt b p)
   unfolding shortAt shapeAt
@@ -70,7 +69,7 @@ module _ (b : List ℕ) (p : ℕ) where
 
   -- a number that stands behind the tag is told there
   told : {k n : ℕ} {l : List ℕ} → Number k l n → Stands b (p + 1) l → numberAt k b (p + 1) ≡ n
-  told w s = ap known (spells b (p + 1) s w)
+  told w s = number-of _ b (p + 1) (spells b (p + 1) s w)
 
   -- a number, i bytes more, and as many as the number says
   sized : {k m : ℕ} (i : ℕ) (n r : List ℕ) → Number k n m → length r ≡ m + i → Stands b (p + 1) (n ++ r) → ends (p + (1 + k + i) + numberAt k b (p + 1)) ≡ ends (p + 1 + length (n ++ r))
@@ -113,7 +112,7 @@ module _ (b : List ℕ) (p : ℕ) where
   row-is (layout.export a i a2 i2 a3 i3) s = alike (omega arith) refl refl
   row-is (layout.function f n {ts = ts} e w a i a2 i2 a3 i3 a4 i4 a5) s =
       let q : p + 1 + length f ≡ p + 26 = omega arith in
-      let t : numberAt 4 b (p + 26) ≡ count ts = ap (λ (k : ℕ). numberAt 4 b k) (sym q) ∙ ap known (spells b (p + 1 + length f) (right b (p + 1) f n s) w) in
+      let t : numberAt 4 b (p + 26) ≡ count ts = ap (λ (k : ℕ). numberAt 4 b k) (sym q) ∙ number-of 4 b _ (spells b (p + 1 + length f) (right b (p + 1) f n s) w) in
       alike (simp length-append (omega (arith, w .wide))) (omega arith) refl
 
 -- the bytes of a term tell its shape
@@ -121,7 +120,7 @@ pub shape-is : (b : List ℕ) (p : ℕ) (x : Tree) → length b ≤ cap.input �
 unfolding bytes
 shape-is b p (node tag front kids back) l a s =
     let r = front ++ (bytesAll kids ++ back) in
-    sym (by-tag b p tag (omega (arith, s .inside)) l (byte b p tag r s)) ∙ row-is b p a (left b (p + 1) front (bytesAll kids ++ back) (behind b p tag r s))
+    sym (by-tag b p tag (omega (arith, s .inside), l) (byte b p tag r s)) ∙ row-is b p a (left b (p + 1) front (bytesAll kids ++ back) (behind b p tag r s))
 
 -- a laid tree's children are laid
 pub kids-laid : {tag : ℕ} {front : List ℕ} {ts : Forest} {back : List ℕ} → Laid (node tag front ts back) → AllLaid ts

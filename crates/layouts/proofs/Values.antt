@@ -7,11 +7,13 @@ use lib.Dec.{eqb}
 use lib.IntN.{pos, negsuc, negℤ, natAbs}
 use lib.ListN.{length, getD, drop}
 use lib.Seq.{drop-at, drop-drop, getD-at, getD-drop}
-use Rattle.fields.specs.Be.{le, Bytes}
+use Rattle.fields.specs.Be.{le}
+use Rattle.fields.specs.Inner.Be.{Bytes}
 use Rattle.fields.proofs.Digits.{le-below}
-use Rattle.layouts.specs.Tree.{Tree, node, leaf, frontOf}
+use Rattle.layouts.specs.Tree.{Tree, node, leaf}
+use Rattle.layouts.specs.Inner.Shape.{frontOf}
 use Rattle.layouts.specs.Layout.{Number}
-use Rattle.layouts.specs.Values.{bySign, bigBehind, bigInteger, integers}
+use Rattle.layouts.specs.Values.{bySign, bigInteger, integers}
 
 -- a number of k bytes, a sign and digits
 module _ {k m : ℕ} (n : List ℕ) (sign : ℕ) (s : List ℕ) (w : Number k n m) where
@@ -21,8 +23,7 @@ module _ {k m : ℕ} (n : List ℕ) (sign : ℕ) (s : List ℕ) (w : Number k n 
   pub digits-are : drop (k + 1) (n ++ (sign ∷ s)) ≡ s
   digits-are = sym (drop-drop 1 k (n ++ (sign ∷ s))) ∙ ap (drop 1) (drop-at n (sign ∷ s) k (w .wide))
 
-  behind-is : bigBehind k (n ++ (sign ∷ s)) ≡ bySign sign (le s)
-  unfolding bigBehind
+  behind-is : bySign (getD (n ++ (sign ∷ s)) k 0) (le (drop (k + 1) (n ++ (sign ∷ s)))) ≡ bySign sign (le s)
   behind-is = rw (sign-is, digits-are)
 
 pub small-big-is : {m : ℕ} (n : List ℕ) (sign : ℕ) (s : List ℕ) → Number 1 n m → bigInteger (leaf 110 (n ++ (sign ∷ s))) ≡ bySign sign (le s)
@@ -62,15 +63,15 @@ integer-at (node tag front kids back) i = each (drop 2 front) i ∙ ap pos (getD
 
 -- -513 in two digits, 256 in three of which the top is 0, and minus 0; the string "ab"
 pub big-513 : bigInteger (leaf 110 (2 ∷ 1 ∷ 1 ∷ 2 ∷ [])) ≡ negsuc 512
-unfolding bigInteger bigBehind bySign le
+unfolding bigInteger bySign le
 big-513 = refl
 
 pub big-256 : bigInteger (leaf 111 (0 ∷ 0 ∷ 0 ∷ 3 ∷ 0 ∷ 0 ∷ 1 ∷ 0 ∷ [])) ≡ pos 256
-unfolding bigInteger bigBehind bySign le
+unfolding bigInteger bySign le
 big-256 = refl
 
 pub minus-zero : bigInteger (leaf 110 (1 ∷ 255 ∷ 0 ∷ [])) ≡ pos 0
-unfolding bigInteger bigBehind bySign le
+unfolding bigInteger bySign le
 minus-zero = refl
 
 pub string-ab : integers (leaf 107 (0 ∷ 2 ∷ 97 ∷ 98 ∷ [])) ≡ pos 97 ∷ pos 98 ∷ []

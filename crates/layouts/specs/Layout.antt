@@ -5,7 +5,7 @@ use mathlib.Core.Path.{_≡_}
 use mathlib.Core.List.{List, [], _∷_, _++_}
 use lib.ListN.{length, take}
 use Rattle.fields.specs.Be.{be}
-use Rattle.utf8.specs.Good.{Scalars, spelled}
+use Rattle.utf8.specs.Good.{Utf8}
 use Rattle.literal.specs.Trim.{Trimmed}
 use Rattle.literal.specs.Literal.{Literal}
 use Rattle.numbers.specs.Caps as cap
@@ -15,12 +15,6 @@ use Rattle.layouts.specs.Tree.{Tree, Forest, node, none, more, leaf, tag
 pub record Number (k : ℕ) (l : List ℕ) (n : ℕ) : Type 0 where
   pub wide : length l ≡ k
   pub is : be l ≡ n
-
--- "UTF-8 is Unicode's": the bytes of a row of Unicode's scalar values
-pub record Utf8 (l : List ℕ) : Type 0 where
-  pub chars : List ℕ
-  pub scalars : Scalars chars
-  pub is : l ≡ spelled chars
 
 -- "checked as UTF-8, loses trailing zero bytes, and must then read as a Rust `f64` literal"
 pub record NumberText (l : List ℕ) : Type 0 where
@@ -41,8 +35,7 @@ pub data IsAtom : ℕ → Type 0 where
   atom-118 : IsAtom 118
   atom-119 : IsAtom 119
 
--- "an integer child 97 or 98", from 0 to `most`. A negative one of tag 98 spells 2 ^ 31 or more, which is above every `most`;
--- and of 4 bytes just the numbers up to 2147483647 stand for themselves, 0 or more (`signed-natural`, fields/proofs/Laws.antt)
+-- "an integer child 97 or 98", from 0 to `most`: a negative one spells 2 ^ 31 or more, above every `most` (`signed-natural`, fields/proofs/Laws.antt)
 pub data IsNatural (most : ℕ) : Tree → Type 0 where
   natural-97 : {l : List ℕ} → be l ≤ most → IsNatural most (leaf 97 l)
   natural-98 : {l : List ℕ} → be l ≤ most → IsNatural most (leaf 98 l)

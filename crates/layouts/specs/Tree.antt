@@ -16,9 +16,6 @@ mutual
 abbrev pub tagOf : Tree → ℕ
 tagOf (node tag front kids back) = tag
 
-abbrev pub frontOf : Tree → List ℕ
-frontOf (node tag front kids back) = front
-
 -- a term without children
 abbrev pub leaf : ℕ → List ℕ → Tree
 leaf tag front = node tag front none []

@@ -13,17 +13,9 @@ use Rattle.layouts.specs.Tree.{Tree, node}
 unfoldable pub bySign : ℕ → ℕ → ℤ
 bySign sign n = cond (eqb sign 0) (pos n) (negℤ (pos n))
 
--- "sign byte, n digit bytes, least first", behind the k bytes of n
-unfoldable pub bigBehind : ℕ → List ℕ → ℤ
-bigBehind k front = bySign (getD front k 0) (le (drop (k + 1) front))
-
--- "110 / 111: n of 1 / 4 bytes"
-pub data IsBig : ℕ → Type 0 where
-  big-110 : IsBig 110
-  big-111 : IsBig 111
-
+-- "110 / 111: n of 1 / 4 bytes, sign byte, n digit bytes, least first"
 unfoldable pub bigInteger : Tree → ℤ
-bigInteger (node tag front kids back) = cond (eqb tag 110) (bigBehind 1 front) (bigBehind 4 front)
+bigInteger (node tag front kids back) = let k : ℕ = cond (eqb tag 110) 1 4 in bySign (getD front k 0) (le (drop (k + 1) front))
 
 -- "107: length of 2 bytes, bytes; a list of integers 0 to 255"
 unfoldable pub integers : Tree → List ℤ

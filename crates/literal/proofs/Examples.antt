@@ -3,7 +3,7 @@
 use mathlib.Core.Path.{_≡_, refl}
 use mathlib.Core.Bool.{false≢true}
 use mathlib.Core.List.{[], _∷_}
-use Rattle.literal.specs.Trim.{trimmed}
+use Rattle.literal.specs.Inner.Trim.{trimmed}
 use Rattle.literal.specs.Literal.{Literal}
 use Rattle.literal.specs.Inner.Parse.{isLiteral}
 use Rattle.literal.proofs.Meaning.{literal-is}

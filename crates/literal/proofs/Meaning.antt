@@ -9,8 +9,8 @@ use native.Mathlib.Omega.{arith}
 use borrow.Author.Tests.{eqb-true, eq-eqb, ne-eqb, leb-true, le-leb, ltb-true, lt-ltb}
 use lib.Dec.{eqb, ltb}
 use lib.ListN.{length, getD, drop, length-append}
-use Rattle.literal.specs.Literal.{Sign, unsigned, plus, minus, signText, Digit, Digits, none, more, Cased, Word, end, letter, Point, no-point, a-point, Exponent, absent, power, Power, no-power, a-power, Value, number, inf-text, infinity-text, nan-text, Spells, inf, infinity, not-a-number, digits, Literal}
-use Rattle.literal.specs.Inner.Parse.{afterSign, isDigit, afterDigits, isCased, isWord, isEnding, isNumber, isLiteral}
+use Rattle.literal.specs.Literal.{Sign, unsigned, plus, minus, signText, Digits, none, more, Cased, Word, end, letter, Point, no-point, a-point, Exponent, absent, power, Power, no-power, a-power, Value, number, Spells, inf, infinity, not-a-number, digits, Literal}
+use Rattle.literal.specs.Inner.Parse.{afterSign, isDigit, afterDigits, isCased, isWord, isEnding, isNumber, inf-text, infinity-text, nan-text, isLiteral}
 use Rattle.literal.proofs.Pieces as pieces
 
 either : (a b : Bool) → a || b ≡ true → (a ≡ true) ⊎ (b ≡ true)
@@ -19,11 +19,11 @@ either false b e = inr e
 
 -- ---- bytes
 
-digit-is : (b : ℕ) → (isDigit b ≡ true) ↔ Digit b
+digit-is : (b : ℕ) → (isDigit b ≡ true) ↔ ((48 ≤ b) × (b ≤ 57))
 unfolding isDigit
 digit-is b = (
-  λ e. let h = and-eq-true-iff _ _ .0 e in record { low = leb-true _ _ (h .0); high = leb-true _ _ (h .1) },
-  λ d. and-eq-true-iff _ _ .1 (le-leb 48 b (d .low), le-leb b 57 (d .high)),
+  λ e. let h = and-eq-true-iff _ _ .0 e in (leb-true _ _ (h .0), leb-true _ _ (h .1)),
+  λ d. and-eq-true-iff _ _ .1 (le-leb 48 b (d .0), le-leb b 57 (d .1)),
 )
 
 cased-is : (c b : ℕ) → (isCased c b ≡ true) ↔ Cased c b
@@ -76,18 +76,18 @@ digits-are (b ∷ s) = go (digits-are s) (isDigit b) refl
   where
     go : (d : List ℕ) × Digits d × (s ≡ d ++ afterDigits s) → (t : Bool) → isDigit b ≡ t
         → (d : List ℕ) × Digits d × (b ∷ s ≡ d ++ afterDigits (b ∷ s))
-    go r true e = rw e (b ∷ r .0, more (digit-is b .0 e) (r .1), ap (λ (l : List ℕ). b ∷ l) (r .2))
+    go r true e = rw e (b ∷ r .0, (let d = digit-is b .0 e in more (d .0) (d .1) (r .1)), ap (λ (l : List ℕ). b ∷ l) (r .2))
     go r false e = rw e ([], none, refl)
 
 pub digits-pass : {d : List ℕ} → Digits d → (t : List ℕ) → afterDigits (d ++ t) ≡ afterDigits t
 unfolding afterDigits
 digits-pass none t = refl
-digits-pass (more k h) t = rw (digit-is _ .1 k) (digits-pass h t)
+digits-pass (more low high h) t = rw (digit-is _ .1 (low, high)) (digits-pass h t)
 
 -- some digits: they begin with no sign
 pub digits-first : {d : List ℕ} → Digits d → ¬ (d ≡ []) → (46 ≤ getD d 0 0) × (0 < length d)
 digits-first none n = absurd (n refl)
-digits-first (more k h) n = (omega (arith, k .low), omega arith)
+digits-first (more low high h) n = (omega arith, omega arith)
 
 -- ---- the ending
 
@@ -197,7 +197,7 @@ spells-first (infinity k) = omega (arith, word-first k)
 spells-first (not-a-number k) = omega (arith, word-first k)
 spells-first (digits none b m (no-point q r) k g) = absurd (m q)
 spells-first (digits none b m (a-point q) k g) = rw (g, q) (omega arith)
-spells-first (digits (more d a) b m p k g) = rw g (omega (arith, d .low))
+spells-first (digits (more low high a) b m p k g) = rw g (omega arith)
 
 spells-pass : {v : Value} {t : List ℕ} → Spells v t → (s : List ℕ) → t ≡ afterSign s → true ≡ isLiteral s
 spells-pass (inf k) s x = pieces.is-inf s _ x (word-passes k)

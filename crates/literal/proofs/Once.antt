@@ -60,7 +60,7 @@ tail-once {f} {g} {y = y} {z = z} a b (a-point m) (a-point n) k l h =
 number-first : {w f : List ℕ} {e : Exponent} {t : List ℕ} → Spells (number w f e) t → getD t 0 0 ≤ 57
 number-first (digits none b m (no-point q r) k g) = absurd (m q)
 number-first (digits none b m (a-point q) k g) = rw (g, q) (omega arith)
-number-first (digits (more d a) b m p k g) = rw g (d .high)
+number-first (digits (more low high a) b m p k g) = rw g high
 
 no-word : {A : Type 0} {w f t v : List ℕ} {e : Exponent} (c : ℕ) → 90 ≤ c → Word (c ∷ v) t → Spells (number w f e) t → A
 no-word c h k l = absurd (omega (arith, word-first k, number-first l))

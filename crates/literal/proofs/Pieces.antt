@@ -10,8 +10,7 @@ use borrow.Author.Tests.{eq-eqb, ne-eqb, lt-ltb, le-ltb}
 use lib.Dec.{ltb}
 use lib.ListN.{length, getD, take, drop, length-drop, drop-of-length-le}
 use lib.Seq.{take-all, drop-cons}
-use Rattle.literal.specs.Literal.{inf-text, infinity-text, nan-text}
-use Rattle.literal.specs.Inner.Parse.{afterSign, isDigit, afterDigits, isCased, isWord, isEnding, isNumber, isLiteral}
+use Rattle.literal.specs.Inner.Parse.{afterSign, isDigit, afterDigits, isCased, isWord, isEnding, isNumber, inf-text, infinity-text, nan-text, isLiteral}
 
 -- the part from i on, as the code takes it
 pub part : (s : List ℕ) (i : ℕ) → take (length s - i) (drop i s) ≡ drop i s

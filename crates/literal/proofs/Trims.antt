@@ -8,7 +8,8 @@ use native.Mathlib.Omega.{arith}
 use borrow.Author.Tests.{eqb-true, eqb-false}
 use lib.Dec.{eqb}
 use lib.ListN.{length, getD}
-use Rattle.literal.specs.Trim.{trimmed, Trimmed}
+use Rattle.literal.specs.Trim.{Trimmed}
+use Rattle.literal.specs.Inner.Trim.{trimmed}
 
 -- a byte before a text: nothing is left where nothing was and the byte is 0
 longer : (x : ℕ) {s : List ℕ} (n : ℕ) → Trimmed s n → (n ≡ 0 → x ≡ 0 → ⊥) → Trimmed (x ∷ s) (suc n)

@@ -16,13 +16,9 @@ signText plus = 43 ∷ []
 signText minus = 45 ∷ []
 
 -- "digits": bytes from 0 (48) to 9 (57), perhaps none
-pub record Digit (b : ℕ) : Type 0 where
-  pub low : 48 ≤ b
-  pub high : b ≤ 57
-
 pub data Digits : List ℕ → Type 0 where
   none : Digits []
-  more : {b : ℕ} {l : List ℕ} → Digit b → Digits l → Digits (b ∷ l)
+  more : {b : ℕ} {l : List ℕ} → 48 ≤ b → b ≤ 57 → Digits l → Digits (b ∷ l)
 
 -- "in either letter case": b is the small letter c, or its capital, which stands 32 below it
 abbrev pub Cased : ℕ → ℕ → Type 0
@@ -52,21 +48,12 @@ pub data Value : Type 0 where
   infinite nan : Value
   number : (whole fraction : List ℕ) → Exponent → Value
 
--- "inf, infinity or nan"
-abbrev pub inf-text : List ℕ
-inf-text = 105 ∷ 110 ∷ 102 ∷ []
-
-abbrev pub infinity-text : List ℕ
-infinity-text = 105 ∷ 110 ∷ 102 ∷ 105 ∷ 110 ∷ 105 ∷ 116 ∷ 121 ∷ []
-
-abbrev pub nan-text : List ℕ
-nan-text = 110 ∷ 97 ∷ 110 ∷ []
-
--- a word, "or digits with at most one point and at least one digit", then the exponent: the digits before the point, the point's text p, the exponent's text x
+-- "inf, infinity or nan", "or digits with at most one point and at least one digit", then the exponent: the digits before the point, the
+-- point's text p, the exponent's text x
 pub data Spells : Value → List ℕ → Type 0 where
-  inf : {t : List ℕ} → Word inf-text t → Spells infinite t
-  infinity : {t : List ℕ} → Word infinity-text t → Spells infinite t
-  not-a-number : {t : List ℕ} → Word nan-text t → Spells nan t
+  inf : {t : List ℕ} → Word (105 ∷ 110 ∷ 102 ∷ []) t → Spells infinite t
+  infinity : {t : List ℕ} → Word (105 ∷ 110 ∷ 102 ∷ 105 ∷ 110 ∷ 105 ∷ 116 ∷ 121 ∷ []) t → Spells infinite t
+  not-a-number : {t : List ℕ} → Word (110 ∷ 97 ∷ 110 ∷ []) t → Spells nan t
   digits : {whole fraction : List ℕ} {e : Exponent} {p x t : List ℕ} → Digits whole → Digits fraction → ¬ (whole ++ fraction ≡ [])
       → Point fraction p → Power e x → t ≡ whole ++ (p ++ x) → Spells (number whole fraction e) t
 

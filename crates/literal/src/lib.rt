@@ -4,7 +4,7 @@
 // Changed from `parse_old_float_borrowed` of decoder.rs (michaelklishin/edp-rs, fc07dcb95d).
 // Copyright (C) 2025-2026 Michael S. Klishin and Contributors, Apache-2.0, see NOTICE.
 ghost use mathlib.Core.Path.{_≡_};
-ghost use Rattle.literal.specs.Trim.{trimmed};
+ghost use Rattle.literal.specs.Inner.Trim.{trimmed};
 ghost use Rattle.literal.specs.Inner.Parse.{afterSign, isDigit, afterDigits, isCased, isWord, isEnding, isNumber, isLiteral};
 
 // How many bytes are left of s without its trailing zero bytes.

@@ -13,7 +13,7 @@ use mir.Syntax.{w64}
 use mir.Val.{SFits, ofZ, toZ}
 use mir.Facts.{toZ-ofZ}
 use borrow.Author.Tests.{eqb-true, eq-eqb, ne-eqb}
-use Rattle.lookup.specs.Lookup.{sameBytes, sameInteger}
+use Rattle.lookup.specs.Inner.Found.{sameBytes, sameInteger}
 
 -- bytes and integers are equal to themselves only
 pub bytes-only : (s t : List ℕ) → sameBytes s t ≡ true → s ≡ t

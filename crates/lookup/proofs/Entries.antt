@@ -12,7 +12,8 @@ use Rattle.layouts.specs.Layout.{AllLaid, one-more}
 use Rattle.layouts.proofs.Stands.{left, right}
 use Rattle.lookup.specs.declared.Place.{Place}
 use Rattle.lookup.specs.declared.Place.the-variants as place
-use Rattle.lookup.specs.Lookup.{Key, equal, orElse, found}
+use Rattle.lookup.specs.Lookup.{Key}
+use Rattle.lookup.specs.Inner.Found.{equal, orElse, found}
 use Rattle.lookup.specs.Inner.Walk.{Term, Terms, OneTerm, Ends, Judges}
 
 -- a key and its value, and what is left behind them

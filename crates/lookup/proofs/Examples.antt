@@ -14,9 +14,11 @@ use Rattle.utf8.specs.Good as good
 use Rattle.reading.specs.declared.Answer.{Answer}
 use Rattle.reading.specs.Answer.{readAt}
 use Rattle.layouts.specs.Tree.{Tree, node, none, more, leaf, count, bytes, size, depth, Stands}
-use Rattle.layouts.specs.Layout.{Laid, Utf8, row, map, nil, small-integer, integer, small-atom, string, small-big, no-more, one-more}
+use Rattle.layouts.specs.Layout.{Laid, row, map, nil, small-integer, integer, small-atom, string, small-big, no-more, one-more}
 use Rattle.accepts.proofs.Accepts.{read-complete}
-use Rattle.lookup.specs.Lookup.{Key, name, number, sameBytes, sameInteger, equal, found, looked, Looked}
+use Rattle.lookup.specs.Lookup.{Key, name, number, Looked}
+use Rattle.lookup.specs.Inner.Found.{sameBytes, sameInteger, equal, found, looked}
+use Rattle.lookup.proofs.Says.{one-looked}
 
 -- a term that is there is read, and what is looked up in it goes by its tree
 module _ (t : Tree) (a : Laid t) (low : depth t ≤ 64) (short : length (bytes t) ≤ 16777215) where
@@ -32,7 +34,7 @@ module _ (t : Tree) (a : Laid t) (low : depth t ≤ 64) (short : length (bytes t
 
   by-tree : {k : Key} {r : Answer} → Looked (131 ∷ bytes t) 1 64 k r → r ≡ looked k 1 t read
   unfolding read
-  by-tree l = l .done (is-read .0) t a stands
+  by-tree l = one-looked _ 1 _ (l .done (is-read .0) t a stands)
 
 -- 131 116 0 0 0 2 97 1 97 7 98 0 0 0 1 97 8: key 1 is found at 15. A lookup that stops at the first equal key says 8
 pairs : Tree
@@ -87,7 +89,7 @@ big-key l = let e = by-tree (only _) (only-laid big-one) (omega arith) (omega ar
 two-letters : Laid (leaf 119 (2 ∷ 97 ∷ 98 ∷ []))
 unfolding be scalar encode good.spelled
 two-letters =
-    let text : Utf8 (97 ∷ 98 ∷ []) = record { chars = 97 ∷ 98 ∷ []; scalars = good.more refl (good.more refl good.none); is = refl } in
+    let text : good.Utf8 (97 ∷ 98 ∷ []) = record { chars = 97 ∷ 98 ∷ []; scalars = good.more refl (good.more refl good.none); is = refl } in
     row (small-atom (2 ∷ []) (97 ∷ 98 ∷ []) (record { wide = refl; is = refl }) text)
 
 pub longer-name : {r : Answer} → Looked (131 ∷ 116 ∷ 0 ∷ 0 ∷ 0 ∷ 1 ∷ 119 ∷ 2 ∷ 97 ∷ 98 ∷ 106 ∷ []) 1 64 (name (97 ∷ [])) r → (r .number ≡ 16) × (r .offset ≡ 1)

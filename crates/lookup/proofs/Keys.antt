@@ -16,10 +16,12 @@ use Rattle.fields.specs.Be.{be, beAt, signed}
 use Rattle.fields.specs.Field.{integerAt}
 use Rattle.fields.specs.declared.Integer.the-variants as integer
 use Rattle.fields.proofs.Laws.{is-there, integer-is, be-one}
-use Rattle.layouts.specs.Tree.{Tree, node, leaf, tagOf, frontOf, bytes, Stands}
+use Rattle.layouts.specs.Tree.{Tree, node, leaf, tagOf, bytes, Stands}
+use Rattle.layouts.specs.Inner.Shape.{frontOf}
 use Rattle.layouts.specs.Layout.{Laid, row, small-integer, integer, old-atom, atom, small-atom}
 use Rattle.layouts.proofs.Stands.{left, right, byte, behind}
-use Rattle.lookup.specs.Lookup.{name, number, sameBytes, sameInteger, equal}
+use Rattle.lookup.specs.Lookup.{name, number}
+use Rattle.lookup.specs.Inner.Found.{sameBytes, sameInteger, equal}
 use Rattle.lookup.specs.Inner.Walk.{Term, Ends}
 use Rattle.lookup.proofs.Compare.{by-bits}
 

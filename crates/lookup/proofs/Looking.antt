@@ -1,37 +1,39 @@
 -- From reading a term to looking a key up in it. Assumes nothing.
-use Prim.Native.Nat.{ℕ, _+_, _≤_}
-use native.Mathlib.Omega.{arith}
-use mathlib.Core.Path.{_≡_, refl, ap, sym, _∙_}
+use Prim.Native.Nat.{ℕ, _+_, _*_, _≤_}
+use mathlib.Core.Path.{_≡_, refl, ap, sym, subst, _∙_}
 use mathlib.Core.List.{List, []}
-use mathlib.Core.Bool.{Bool, true, false, cond, _||_}
-use lib.Dec.{ltb, eqb}
 use lib.ListN.{length, getD}
-use borrow.Author.Tests.{ltb-false, eq-eqb, ne-eqb}
+use borrow.Author.Tests.{eq-eqb, ne-eqb}
 use Rattle.numbers.specs.Caps as cap
+use Rattle.fields.specs.Field.{numberAt}
 use Rattle.numbers.specs.Numbers as answer
 use Rattle.reading.specs.declared.Answer.{Answer}
 use Rattle.reading.specs.Answer.{refusal, readAt}
 use Rattle.reading.proofs.Answers.{read-short}
 use Rattle.layouts.specs.declared.Shape.{Shape}
-use Rattle.layouts.specs.Inner.Shape.{shapeAt}
-use Rattle.layouts.specs.Tree.{Tree, Forest, node, bytes, bytesAll}
+use Rattle.layouts.specs.Inner.Shape.{shapeBy, shapeAt}
+use Rattle.layouts.specs.Tree.{Tree, node, tagOf, count, bytes, bytesAll}
 use Rattle.layouts.proofs.Stands.{left, right, behind}
-use Rattle.layouts.proofs.Shapes.{shape-is, kids-laid}
+use Rattle.layouts.proofs.Shapes.{by-tag, shape-is, kids-laid}
 use Rattle.accepts.proofs.Accepts.{read-sound}
 use Rattle.lookup.specs.declared.Place.{Place}
-use Rattle.lookup.specs.Lookup.{Key, told, found, looked, Looked}
+use Rattle.lookup.specs.Lookup.{Key, Answers, Looked}
+use Rattle.lookup.specs.Inner.Found.{told, found, looked}
 use Rattle.lookup.specs.Inner.Walk.{Term, Terms, OneTerm, SomeTerms, Finds}
-use Rattle.lookup.proofs.Keys.{tag-is}
+use Rattle.lookup.proofs.Keys.{tag-is, is-inside}
+use Rattle.lookup.proofs.Says.{kidsOf, answered}
 
--- the children of a term, and where they stand
-abbrev kidsOf : Tree → Forest
-kidsOf (node tag front kids back) = kids
-
+-- where the children of a term stand, and that those of a map come in pairs
 kids-at : {b : List ℕ} {p : ℕ} (t : Tree) → length b ≤ cap.input → Term b p t → (s : Shape) → s ≡ shapeAt b p → Terms b (s .from) (s .kids) (kidsOf t)
 unfolding bytes
 kids-at {b} {p} (node tag front kids back) h i s e =
     rw (e ∙ shape-is b p (node tag front kids back) h (i .laid) (i .stands))
     (record { laid = kids-laid (i .laid); counted = refl; stands = left b _ (bytesAll kids) back (right b (p + 1) front _ (behind b p tag _ (i .stands))) })
+
+in-pairs : {b : List ℕ} {p : ℕ} (t : Tree) → length b ≤ cap.input → Term b p t → tagOf t ≡ 116 → count (kidsOf t) ≡ 2 * numberAt 4 b (p + 1)
+unfolding shapeBy
+in-pairs {b} {p} (node tag front kids back) h i f =
+    ap (λ (s : Shape). s .kids) (sym (shape-is b p (node tag front kids back) h (i .laid) (i .stands)) ∙ sym (by-tag b p 116 (is-inside i, h) (tag-is i ∙ f)))
 
 module _ (b : List ℕ) (at limit : ℕ) {a : Answer} (is : a ≡ readAt b at limit) where
   -- as reading refuses
@@ -57,7 +59,9 @@ module _ (b : List ℕ) (at limit : ℕ) {a : Answer} (is : a ≡ readAt b at li
     by-term k r h =
         record {
           refused = λ n. absurd (n fine);
-          done = λ e t l s. h t (record { laid = l; stands = s }) ∙ ap (looked k at t) is;
+          done = λ e t l s.
+              let i : Term b at t = record { laid = l; stands = s } in
+              subst (Answers k at (readAt b at limit) t) (sym (h t i ∙ ap (looked k at t) is)) (answered k at _ t _ (in-pairs t short i));
         }
 
     pub not-map : (k : Key) (r : Answer) → ¬ (getD b at 0 ≡ 116) → r ≡ refusal answer.Kind at (getD b at 0) (a .begun) (a .deepest) [] → Looked b at limit k r

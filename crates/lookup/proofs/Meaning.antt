@@ -1,28 +1,29 @@
 -- What the promise of a lookup means: it leaves one answer, whose path has 64 segments at most and whose number is Done or of the list, and
 -- what is found is the value of the last equal key. Assumes nothing.
-use Prim.Native.Nat.{ℕ, zero, suc, _+_, _*_, _≤_}
+use Prim.Native.Nat.{ℕ, _+_, _≤_}
 use native.Mathlib.Omega.{arith}
 use mathlib.Core.Path.{_≡_, refl, ap, sym, _∙_}
 use mathlib.Core.List.{List, []}
-use mathlib.Core.Bool.{Bool, true, false, cond}
+use mathlib.Core.Bool.{Bool, true, false}
 use lib.Dec.{eqb}
 use lib.ListN.{length}
 use borrow.Author.Tests.{eqb-true, eqb-false}
 use Rattle.numbers.specs.Caps as cap
 use Rattle.numbers.specs.Numbers as number
-use Rattle.numbers.specs.Numbers.{among, Listed, outcome, Shown}
-use Rattle.numbers.proofs.Laws.{listed-shown, by-test}
+use Rattle.numbers.specs.Numbers.{among, Listed}
+use Rattle.numbers.proofs.Laws.{outcome, Shown, listed-shown, by-test}
 use Rattle.reading.specs.declared.Answer.{Answer}
 use Rattle.reading.specs.Answer.{refusal, readAt}
 use Rattle.reading.proofs.Bounds as bounds
 use Rattle.reading.proofs.Outcomes.{read-shown}
-use Rattle.layouts.specs.Tree.{Tree, Forest, node, none, more, count, bytes, Stands}
+use Rattle.layouts.specs.Tree.{Tree, Forest, node, bytes, Stands}
 use Rattle.layouts.specs.Layout.{Laid}
 use Rattle.accepts.proofs.Accepts.{read-sound}
 use Rattle.lookup.specs.declared.Place.{Place}
 use Rattle.lookup.specs.declared.Place.the-variants as place
-use Rattle.lookup.specs.Lookup.{Key, equal, orElse, found, told, looked, Looked}
-use Rattle.lookup.specs.Inner.Last.{Without, no-pairs, one-more, Last, first, later, Says}
+use Rattle.lookup.specs.Lookup.{Key, Looked}
+use Rattle.lookup.specs.Inner.Found.{found, Says, told, looked}
+use Rattle.lookup.proofs.Says.{says-found, one-looked}
 
 -- two answers that the promise allows are one
 pub one-answer : {b : List ℕ} {at limit : ℕ} {k : Key} {r r' : Answer} → Looked b at limit k r → Looked b at limit k r' → r ≡ r'
@@ -33,7 +34,7 @@ one-answer {b} {at} {limit} {k} {r} {r'} l l' = go (eqb (readAt b at limit .numb
     go true h =
         let e = eqb-true (readAt b at limit .number) 0 h in
         let f = read-sound b at limit e in
-        l .done e (f .tree) (f .laid) (f .stands) ∙ sym (l' .done e (f .tree) (f .laid) (f .stands))
+        one-looked k at _ (l .done e (f .tree) (f .laid) (f .stands)) ∙ sym (one-looked k at _ (l' .done e (f .tree) (f .laid) (f .stands)))
 
 -- what the reading's answer has, at whatever offset, and a refusal behind it with its counts, every answer that the promise allows has
 answers : {b : List ℕ} {at limit : ℕ} {k : Key} {r : Answer} → Looked b at limit k r → (P : Answer → Type 0) → P (readAt b at limit) →
@@ -54,7 +55,7 @@ answers {b} {at} {limit} {k} {r} l P read finds refuses = go (eqb (readAt b at l
     go true h =
         let e = eqb-true (readAt b at limit .number) 0 h in
         let f = read-sound b at limit e in
-        rw (l .done e (f .tree) (f .laid) (f .stands)) (looks (f .tree))
+        rw (one-looked k at _ (l .done e (f .tree) (f .laid) (f .stands))) (looks (f .tree))
 
 module _ {b : List ℕ} {at limit : ℕ} {k : Key} {r : Answer} (l : Looked b at limit k r) where
   -- its path is the reading's, or empty
@@ -65,41 +66,8 @@ module _ {b : List ℕ} {at limit : ℕ} {k : Key} {r : Answer} (l : Looked b at
   pub answer-shown : Shown (outcome (r .number))
   answer-shown = let read = read-shown b limit at in answers l (λ a. Shown (outcome (a .number))) read (λ q. read) (λ n x. listed-shown n)
 
-module _ (k : Key) where
-  -- what is found in m pairs is what the words say
-  pub found-says : (m p : ℕ) (ts : Forest) → count ts ≡ 2 * m → Says k p ts (found k p ts)
-  unfolding count found
-  found-says zero p none c = no-pairs
-  found-says zero p (more x ts) c = absurd (omega arith)
-  found-says (suc m) p none c = absurd (omega arith)
-  found-says (suc m) p (more x none) c = absurd (omega arith)
-  found-says (suc m) p (more x (more y ts)) c = go (found k p' ts) (equal k x) refl (found-says m p' ts (omega arith))
-    where
-      p' : ℕ
-      p' = p + length (bytes x) + length (bytes y)
-
-      go : (o : Place) (e : Bool) → equal k x ≡ e → Says k p' ts o → Says k p (more x (more y ts)) (orElse o (cond e (place.At (p + length (bytes x))) place.Nowhere))
-      go (place.At q) e f s = later s
-      go place.Nowhere true f s = first f s refl
-      go place.Nowhere false f s = one-more f s
-
-  -- and the words say it of nothing else
-  none-found : {ts : Forest} (p : ℕ) → Without k ts → found k p ts ≡ place.Nowhere
-  unfolding found
-  none-found p no-pairs = refl
-  none-found p (one-more e w) = rw (none-found _ w, e)
-
-  last-found : {p q : ℕ} {ts : Forest} → Last k q p ts → found k p ts ≡ place.At q
-  unfolding found
-  last-found (first e w f) = rw (none-found _ w, e, f)
-  last-found (later l) = rw (last-found l)
-
-  pub says-found : (o : Place) (p : ℕ) (ts : Forest) → Says k p ts o → found k p ts ≡ o
-  says-found (place.At q) p ts s = last-found s
-  says-found place.Nowhere p ts s = none-found p s
-
-  -- so every answer about a map that was read tells what the words say of its entries
-  pub map-answer : {b : List ℕ} {at limit : ℕ} {r : Answer} {front back : List ℕ} {kids : Forest} (o : Place) → Looked b at limit k r → readAt b at limit .number ≡ 0 →
-      Laid (node 116 front kids back) → Stands b at (bytes (node 116 front kids back)) → Says k (at + 1 + length front) kids o → r ≡ told at (readAt b at limit) o
-  unfolding looked
-  map-answer {b} {at} {limit} {front = front} {kids = kids} o l e a s w = l .done e _ a s ∙ ap (told at (readAt b at limit)) (says-found o (at + 1 + length front) kids w)
+-- every answer about a map that was read tells what the words say of its entries
+pub map-answer : (k : Key) {b : List ℕ} {at limit : ℕ} {r : Answer} {front back : List ℕ} {kids : Forest} (o : Place) → Looked b at limit k r → readAt b at limit .number ≡ 0 →
+    Laid (node 116 front kids back) → Stands b at (bytes (node 116 front kids back)) → Says k (at + 1 + length front) kids o → r ≡ told at (readAt b at limit) o
+unfolding looked
+map-answer k {b} {at} {limit} {front = front} {kids = kids} o l e a s w = one-looked k at _ (l .done e _ a s) ∙ ap (told at (readAt b at limit)) (says-found k o (at + 1 + length front) kids w)

@@ -2,79 +2,53 @@
 -- order of reading: which tree stands in the input is the layouts' matter.
 use Prim.Native.Nat.{ℕ, _+_}
 use mathlib.Core.Path.{_≡_}
-use mathlib.Core.List.{List, [], _∷_}
-use mathlib.Core.Bool.{Bool, true, false, cond, _||_, _&&_}
-use lib.Dec.{eqb}
-use lib.IntN.{ℤ, pos, negsuc}
+use mathlib.Core.List.{List, []}
+use lib.IntN.{ℤ, pos}
 use lib.ListN.{length, drop}
 use Rattle.fields.specs.Be.{be, signed}
 use Rattle.numbers.specs.Numbers as answer
 use Rattle.reading.specs.declared.Answer.{Answer}
 use Rattle.reading.specs.Answer.{refusal, readAt}
-use Rattle.layouts.specs.Tree.{Tree, Forest, node, none, more, bytes, Stands}
+use Rattle.layouts.specs.Tree.{Tree, Forest, node, none, more, bytes, tagOf, Stands}
 use Rattle.layouts.specs.Layout.{Laid}
-use Rattle.lookup.specs.declared.Place.{Place}
-use Rattle.lookup.specs.declared.Place.the-variants as place
 
 -- "an atom name or 64-bit integer"
 pub data Key : Type 0 where
   name : List ℕ → Key
   number : ℤ → Key
 
--- the same bytes, the same integer
-unfoldable pub sameBytes : List ℕ → List ℕ → Bool
-sameBytes [] [] = true
-sameBytes [] (y ∷ t) = false
-sameBytes (x ∷ s) [] = false
-sameBytes (x ∷ s) (y ∷ t) = eqb x y && sameBytes s t
+-- "compares only atom keys and keys of tags 97 and 98": a name stands behind its length of 1 byte, tag 119, or 2, tags 100 and 118; an
+-- integer has "1 byte unsigned / 4 bytes two's complement"
+pub data Equal : Key → Tree → Type 0 where
+  atom-119 : {l back : List ℕ} {ts : Forest} → Equal (name (drop 1 l)) (node 119 l ts back)
+  atom-100 : {l back : List ℕ} {ts : Forest} → Equal (name (drop 2 l)) (node 100 l ts back)
+  atom-118 : {l back : List ℕ} {ts : Forest} → Equal (name (drop 2 l)) (node 118 l ts back)
+  integer-97 : {l back : List ℕ} {ts : Forest} → Equal (number (pos (be l))) (node 97 l ts back)
+  integer-98 : {l back : List ℕ} {ts : Forest} → Equal (number (signed (be l))) (node 98 l ts back)
 
-unfoldable pub sameInteger : ℤ → ℤ → Bool
-sameInteger (pos m) (pos n) = eqb m n
-sameInteger (pos m) (negsuc n) = false
-sameInteger (negsuc m) (pos n) = false
-sameInteger (negsuc m) (negsuc n) = eqb m n
+-- pairs of a key and a value, none of whose keys is equal
+pub data Without (k : Key) : Forest → Type 0 where
+  no-pairs : Without k none
+  one-more : {x y : Tree} {ts : Forest} → ¬ Equal k x → Without k ts → Without k (more x (more y ts))
 
--- "compares only atom keys and keys of tags 97 and 98". An atom's name stands behind a length of 1 byte, tag 119, or 2, tags 100 and 118;
--- an integer has "1 byte unsigned / 4 bytes two's complement"
-unfoldable pub equal : Key → Tree → Bool
-equal (name s) (node tag front kids back) =
-    cond (eqb tag 119) (sameBytes (drop 1 front) s)
-    (cond (eqb tag 100 || eqb tag 118) (sameBytes (drop 2 front) s)
-    false)
-equal (number z) (node tag front kids back) =
-    cond (eqb tag 97) (sameInteger (pos (be front)) z)
-    (cond (eqb tag 98) (sameInteger (signed (be front)) z)
-    false)
+-- "the last equal key wins": its value stands at q, of pairs from p on. It is in the first pair, and no key after it is equal, or later
+pub data Last (k : Key) (q : ℕ) : ℕ → Forest → Type 0 where
+  first : {p : ℕ} {x y : Tree} {ts : Forest} → Equal k x → Without k ts → q ≡ p + length (bytes x) → Last k q p (more x (more y ts))
+  later : {p : ℕ} {x y : Tree} {ts : Forest} → Last k q (p + length (bytes x) + length (bytes y)) ts → Last k q p (more x (more y ts))
 
--- a place, and where there is none the other
-abbrev pub orElse : Place → Place → Place
-orElse (place.At q) o = place.At q
-orElse place.Nowhere o = o
+-- "its value's offset is the answer"
+abbrev pub moved : ℕ → Answer → Answer
+moved q a = record { number = a .number; end = a .end; offset = q; extra = a .extra; begun = a .begun; deepest = a .deepest; len = a .len; path = a .path }
 
-unfoldable mutual
-  -- "the last equal key wins": where its value stands. Keys and values take turns, and a key stands at p
-  pub found : Key → ℕ → Forest → Place
-  found k p none = place.Nowhere
-  found k p (more x ts) = foundFrom k (equal k x) (p + length (bytes x)) ts
-
-  -- the same where a value stands at v, whose key is equal or isn't
-  pub foundFrom : Key → Bool → ℕ → Forest → Place
-  foundFrom k e v none = place.Nowhere
-  foundFrom k e v (more y ts) = orElse (found k (v + length (bytes y)) ts) (cond e (place.At v) place.Nowhere)
-
--- "its value's offset is the answer", else Absent; "both at the map's offset, path empty", with the counts of the reading
-abbrev pub told : ℕ → Answer → Place → Answer
-told at a (place.At q) = record { number = a .number; end = a .end; offset = q; extra = a .extra; begun = a .begun; deepest = a .deepest; len = a .len; path = a .path }
-told at a place.Nowhere = refusal answer.Absent at 0 (a .begun) (a .deepest) []
-
--- "after reading Kind, then Absent": of the term that was read at a place, and the answer of reading it
-unfoldable pub looked : Key → ℕ → Tree → Answer → Answer
-looked k at (node tag front kids back) a =
-    cond (eqb tag 116) (told at a (found k (at + 1 + length front) kids))
-    (refusal answer.Kind at tag (a .begun) (a .deepest) [])
+-- "after reading Kind, then Absent", "both at the map's offset, path empty": by the term that was read at a place, with the counts of reading
+-- it, which answered a
+pub data Answers (k : Key) (at : ℕ) (a : Answer) : Tree → Answer → Type 0 where
+  is-found : {q : ℕ} {n back : List ℕ} {ts : Forest} → Last k q (at + 1 + length n) ts → Answers k at a (node 116 n ts back) (moved q a)
+  is-absent : {n back : List ℕ} {ts : Forest} → Without k ts → Answers k at a (node 116 n ts back) (refusal answer.Absent at 0 (a .begun) (a .deepest) [])
+  no-map : {t : Tree} → ¬ (tagOf t ≡ 116) → Answers k at a t (refusal answer.Kind at (tagOf t) (a .begun) (a .deepest) [])
 
 -- "It reads the whole term there, at nesting 1": as reading refuses; else by the term that stands there, which is one and no other by the
 -- laws of layouts (read-sound, unique)
 pub record Looked (b : List ℕ) (at limit : ℕ) (k : Key) (r : Answer) : Type 0 where
   pub refused : ¬ (readAt b at limit .number ≡ 0) → r ≡ readAt b at limit
-  pub done : readAt b at limit .number ≡ 0 → (t : Tree) → Laid t → Stands b at (bytes t) → r ≡ looked k at t (readAt b at limit)
+  pub done : readAt b at limit .number ≡ 0 → (t : Tree) → Laid t → Stands b at (bytes t) → Answers k at (readAt b at limit) t r

@@ -8,7 +8,8 @@ use reading::Cause;
 ghost use mathlib.Core.Path.{_≡_};
 ghost use Prim.Native.Nat.{_+_, _-_, _≤_};
 ghost use lib.ListN.{length, take, drop};
-ghost use Rattle.lookup.specs.Lookup.{Looked, sameBytes};
+ghost use Rattle.lookup.specs.Lookup.{Looked};
+ghost use Rattle.lookup.specs.Inner.Found.{sameBytes};
 ghost use Rattle.lookup.specs.Lookup as key;
 ghost use Rattle.lookup.specs.Inner.Walk.{keyOf, OneTerm, SomeTerms, Ends, Judges, Finds};
 

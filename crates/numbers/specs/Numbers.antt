@@ -1,5 +1,5 @@
--- The numbers the jig shows (document 01), by name, the list of those that a refusal may bear, and which answers keep to it.
-use Prim.Native.Nat.{ℕ, zero, suc}
+-- The numbers the jig shows (document 01), by name, and the list of those that a refusal may bear.
+use Prim.Native.Nat.{ℕ}
 use mathlib.Core.Path.{_≡_}
 use mathlib.Core.List.{List, [], _∷_}
 use mathlib.Core.Bool.{Bool, true, false, _||_}
@@ -56,26 +56,11 @@ Store = 15
 abbrev pub Absent : ℕ
 Absent = 16
 
--- "A refusal bears a number from document 01 or 02": a line for each, and a request adds its own
+-- "A refusal bears a number from document 01 or 02": a request adds its own, in a line before the last
 abbrev pub refusals : List ℕ
 refusals =
-    Eof
-    ∷ Tag
-    ∷ Text
-    ∷ Literal
-    ∷ Bits
-    ∷ Size
-    ∷ Trailing
-    ∷ Deep
-    ∷ Room
-    ∷ Long
-    ∷ Name
-    ∷ Version
-    ∷ Kind
-    ∷ Limit
-    ∷ Store
-    ∷ Absent
-    ∷ []
+    Eof ∷ Tag ∷ Text ∷ Literal ∷ Bits ∷ Size ∷ Trailing ∷ Deep ∷ Room ∷ Long ∷ Name ∷ Version ∷ Kind ∷ Limit ∷ Store ∷ Absent ∷
+    []
 
 -- whether a number stands in a list, and that it is a refusal's
 unfoldable pub among : ℕ → List ℕ → Bool
@@ -84,18 +69,3 @@ among n (m ∷ l) = eqb n m || among n l
 
 abbrev pub Listed : ℕ → Type 0
 Listed n = among n refusals ≡ true
-
--- what an answer comes to: Done, or refused by a number. Each type of answers has a definition of this, named after it
-pub data Outcome : Type 0 where
-  done : Outcome
-  refused : ℕ → Outcome
-
--- the same of an answer that is or has a number: 0 is Done
-abbrev pub outcome : ℕ → Outcome
-outcome zero = done
-outcome (suc n) = refused (suc n)
-
--- an outcome that may be shown: a refusal bears a number of the list, so never 0
-abbrev pub Shown : Outcome → Type 0
-Shown done = Unit {0}
-Shown (refused n) = Listed n

@@ -16,12 +16,12 @@ use Rattle.reading.specs.declared.Kind.{Kind}
 use Rattle.reading.specs.declared.Kind.the-variants as kind
 use Rattle.reading.specs.declared.Segment.{Segment}
 use Rattle.reading.specs.Reading.{State, Result, done, no, andThen, entered, fields, pass, sized, counted}
-use Rattle.reading.specs.Terms.{elems, pair, pairs, required, isAtom, isNatural, isPid, atMost, smallTuple, largeTuple, list, map, pid, reference, export, captured, function, body, term}
+use Rattle.reading.specs.Terms.{elems, pair, pairs, required, isAtom, isNatural, isPid, smallTuple, largeTuple, list, map, pid, reference, export, captured, function, body, term}
 use Rattle.reading.specs.Answer.{refusal}
 
 -- reading behind byte 131. `unfolding behind` opens all that it computes with
 unfoldable pub behind : List ℕ → ℕ → Result
-unfolding be beAt holds fieldAt scalar encode decode starts charBytes goodFrom goodBytes row.bytes row.name row.countThen numberThen rowAt andThen entered fields pass sized counted elems pair pairs required isAtom isNatural isPid atMost smallTuple largeTuple list map pid reference export captured function body term
+unfolding be beAt holds fieldAt scalar encode decode starts charBytes goodFrom goodBytes row.bytes row.name row.countThen numberThen rowAt andThen entered fields pass sized counted elems pair pairs required isAtom isNatural isPid smallTuple largeTuple list map pid reference export captured function body term
 behind b limit = term b limit limit (record { at = 1; last = 0; begun = 0; deepest = 0 })
 
 -- where reading stands: the next byte, the last start, the terms begun, the deepest nesting

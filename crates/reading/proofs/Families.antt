@@ -4,14 +4,15 @@ use mathlib.Core.List.{List, [], _∷_}
 use mathlib.Core.Bool.{Bool, true, false, cond}
 use Prim.Native.Nat.{ℕ, zero, suc, _+_, _-_, _*_, _≤_, _<_}
 use native.Mathlib.Omega.{arith}
-use lib.ListN.{length, getD}
-use lib.Dec.{ltb, eqb}
-use borrow.Author.Tests.{le-leb, lt-leb, lt-ltb, le-ltb, ltb-true, ltb-false, eq-eqb, ne-eqb}
+use lib.ListN.{length}
+use lib.Dec.{ltb}
+use borrow.Author.Tests.{lt-ltb, le-ltb, ltb-true, ltb-false, eq-eqb, ne-eqb}
 use Rattle.numbers.specs.Caps as cap
 use Rattle.fields.specs.Field.{holds, fieldAt}
 use Rattle.fields.specs.declared.Field.the-variants as field
 use Rattle.fields.proofs.Laws.{is-whole, is-there, then-is, then-eof}
 use Rattle.numbers.specs.Numbers as number
+use Rattle.numbers.proofs.Laws.{none-of}
 use Rattle.rows.specs.Row.{countAt}
 use Rattle.rows.specs.Layout.{rowAt}
 use Rattle.rows.specs.declared.Row.{Row}
@@ -21,7 +22,7 @@ use Rattle.rows.proofs.Laws.{bytes-there, bytes-gone}
 use Rattle.rows.proofs.Laws as row
 use Rattle.reading.specs.declared.Kind.the-variants as kind
 use Rattle.reading.specs.declared.Segment.{Segment}
-use Rattle.reading.specs.Reading.{State, Result, done, no, andThen, entered, moved, reach, begin, refused, fields, pass, sized, counted}
+use Rattle.reading.specs.Reading.{State, Result, done, no, andThen, moved, reach, begin, refused, fields, pass, sized, counted}
 use Rattle.reading.specs.Terms.{byteAt, elems, pairs, required, isAtom, isNatural, isPid, smallTuple, largeTuple, list, map, pid, reference, export, captured, function, body, term}
 
 pub fields-to : (s : State) {r : Row} {e : ℕ} → r ≡ To e → fields r s ≡ done (moved e s)
@@ -161,6 +162,11 @@ pub no-pid : (b : List ℕ) (p : ℕ) → ¬ (byteAt b p ≡ 88) → isPid b p �
 unfolding isPid
 no-pid b p e = ne-eqb _ _ e
 
+-- a tag is none of those that a match has asked for, the last of which stands first
+abbrev Others : ℕ → List ℕ → Type 0
+Others tag [] = Unit {0}
+Others tag (n ∷ l) = Others tag l × ¬ (tag ≡ n)
+
 -- a tag's layout
 module _ (read : State → Result) (b : List ℕ) (tag : ℕ) (s : State) where
   pub body-104 : tag ≡ 104 → body read b tag s ≡ smallTuple read b s
@@ -199,12 +205,21 @@ module _ (read : State → Result) (b : List ℕ) (tag : ℕ) (s : State) where
   unfolding body
   body-112 e = rw e
 
-  -- any other: a row without children
-  pub body-row : ¬ (tag ≡ 104) → ¬ (tag ≡ 105) → ¬ (tag ≡ 108) → ¬ (tag ≡ 116) → ¬ (tag ≡ 88) → ¬ (tag ≡ 120) → ¬ (tag ≡ 90) → ¬ (tag ≡ 113)
-      → ¬ (tag ≡ 112) → body read b tag s ≡ fields (rowAt b tag (s .at)) s
+  -- any other, as a match over these tags leaves it: a row without children
+  pub body-rest : Others tag (112 ∷ 113 ∷ 90 ∷ 120 ∷ 88 ∷ 116 ∷ 108 ∷ 105 ∷ 104 ∷ []) → body read b tag s ≡ fields (rowAt b tag (s .at)) s
   unfolding body
-  body-row h₁ h₂ h₃ h₄ h₅ h₆ h₇ h₈ h₉ =
-      rw (ne-eqb tag 104 h₁, ne-eqb tag 105 h₂, ne-eqb tag 108 h₃, ne-eqb tag 116 h₄, ne-eqb tag 88 h₅, ne-eqb tag 120 h₆, ne-eqb tag 90 h₇, ne-eqb tag 113 h₈, ne-eqb tag 112 h₉)
+  body-rest r = search none-of
+
+  -- a row that ends is one of these
+  pub body-to : {e : ℕ} → rowAt b tag (s .at) ≡ To e → body read b tag s ≡ done (moved e s)
+  unfolding rowAt
+  body-to {e} h =
+      body-rest (((((((((tt, not 104 refl), not 105 refl), not 108 refl), not 116 refl), not 88 refl), not 120 refl), not 90 refl), not 113 refl), not 112 refl) ∙ fields-to s h
+    where
+      not : (n : ℕ) → rowAt b n (s .at) ≡ No number.Tag 0 → ¬ (tag ≡ n)
+      not n q i =
+          let f : No number.Tag 0 ≡ To e = sym q ∙ ap (λ (t : ℕ). rowAt b t (s .at)) (sym i) ∙ h in
+          absurd (let z : _≡_ {A = ℕ} 0 1 = cc in omega arith)
 
 -- a term
 pub term-eof : (b : List ℕ) (limit rem : ℕ) (s u : State) → length b ≤ s .at → u ≡ reach s → term b limit rem s ≡ refused number.Eof u
@@ -223,6 +238,11 @@ term-body b limit zero s u h k e = absurd (k refl)
 term-body b limit (suc r) s u h k e =
     let d : suc r - 1 ≡ r = omega arith in
     rw (e, d, lt-ltb (s .at) (length b) h)
+
+-- a term without children whose row ends
+pub term-row : (b : List ℕ) (limit rem : ℕ) (s : State) {e : ℕ} → s .at < length b → ¬ (rem ≡ 0) → rowAt b (byteAt b (s .at)) (s .at + 1) ≡ To e →
+    term b limit rem s ≡ done (moved e (begin (limit - (rem - 1)) s))
+term-row b limit rem s h k r = term-body b limit rem s _ h k refl ∙ body-to _ _ _ _ r
 
 -- a term that was read began within the input
 pub inside : (b : List ℕ) (limit rem : ℕ) (s u : State) → term b limit rem s ≡ done u → s .at < length b

@@ -7,8 +7,7 @@ use native.Mathlib.Omega.{arith}
 use native.Mathlib.Nat.{le-trans, le-max-left, le-max-right, max-eq-left}
 use lib.ListN.{length}
 use borrow.Author.Tests.{lt-ltb}
-use Rattle.reading.specs.declared.Segment.{Segment}
-use Rattle.reading.specs.Reading.{State, Result, done, andThen}
+use Rattle.reading.specs.Reading.{State, done}
 use Rattle.reading.specs.Terms.{term}
 use Rattle.reading.proofs.Keeps.{Keeps, keeps-begun}
 

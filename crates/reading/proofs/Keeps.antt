@@ -6,7 +6,7 @@ use mathlib.Core.Path.{_≡_, refl}
 use mathlib.Core.List.{List, [], _∷_}
 use mathlib.Core.Bool.{Bool, true, false, cond, _||_}
 use borrow.Author.Tests.{ltb-true}
-use lib.Dec.{ltb, leb, eqb}
+use lib.Dec.{ltb, eqb}
 use lib.ListN.{length}
 use Rattle.numbers.specs.Caps as cap
 use Rattle.fields.specs.Field.{fieldAt}
@@ -22,7 +22,7 @@ use Rattle.rows.specs.declared.Row.the-variants.{To, No}
 use Rattle.reading.specs.declared.Kind.{Kind}
 use Rattle.reading.specs.declared.Kind.the-variants as kind
 use Rattle.reading.specs.declared.Segment.{Segment}
-use Rattle.reading.specs.Reading.{State, Result, done, no, andThen, entered, moved, reach, begin, refused, fields, pass, sized, counted}
+use Rattle.reading.specs.Reading.{State, Result, done, no, andThen, entered, moved, reach, begin, fields, pass, sized, counted}
 use Rattle.reading.specs.Terms.{byteAt, elems, pair, pairs, required, isAtom, isNatural, isPid}
 use Rattle.reading.specs.Terms.{smallTuple, largeTuple, list, map, pid, reference, export, captured, function, body, term}
 use Rattle.rows.proofs.Laws.{by-count, count-in, count-over, count-eof}

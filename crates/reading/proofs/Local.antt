@@ -6,13 +6,13 @@ use mathlib.Core.Path.{_≡_, refl, ap, sym, _∙_}
 use mathlib.Core.List.{List, []}
 use mathlib.Core.Bool.{Bool, true, false, cond}
 use borrow.Author.Tests.{ltb-true, ltb-false, lt-ltb, eqb-true}
-use lib.Dec.{ltb, eqb}
+use lib.Dec.{ltb, leb, eqb}
 use lib.ListN.{length, take}
 use Rattle.fields.specs.Be.{beAt}
-use Rattle.fields.specs.Field.{fieldAt}
+use Rattle.fields.specs.Field.{fieldAt, numberAt}
 use Rattle.fields.specs.declared.Field.{Field}
 use Rattle.fields.specs.declared.Field.the-variants as field
-use Rattle.fields.proofs.Laws.{is-there, field-is, is-whole}
+use Rattle.fields.proofs.Laws.{is-there, field-is, is-whole, number-of}
 use Rattle.numbers.specs.Numbers as number
 use Rattle.rows.specs.Row.{countAt}
 use Rattle.rows.specs.Row as row
@@ -24,7 +24,7 @@ use Rattle.rows.specs.declared.Row.{Row}
 use Rattle.rows.specs.declared.Row.the-variants.{To, No}
 use Rattle.reading.specs.declared.Kind.{Kind}
 use Rattle.reading.specs.Reading.{State, Result, done, no, andThen, entered, moved, reach, begin, refused, fields, pass, sized, counted}
-use Rattle.reading.specs.Terms.{byteAt, required, isAtom, atMost, isNatural, isPid, body, term}
+use Rattle.reading.specs.Terms.{byteAt, required, isAtom, isNatural, isPid, body, term}
 use Rattle.rows.proofs.Ends.{Agree, agree-less, agree-length, agree-byte, agree-field, Near, bytes-to, near-bytes, near-row}
 use Rattle.reading.proofs.Keeps.{Judge, atom, natural, process, fits, Alike, of-body}
 use Rattle.reading.proofs.Families.{sized-is, sized-eof, counted-is, counted-no}
@@ -112,10 +112,10 @@ module _ (b c : List ℕ) where
 
   -- what a child is judged by lies within it
 
-  same-field : (k p e : ℕ) → p + k ≤ e → e ≤ length b → Agree b c e → fieldAt k b p ≡ fieldAt k c p
-  same-field k p e h l a =
+  same-number : (k p e : ℕ) → p + k ≤ e → e ≤ length b → Agree b c e → numberAt k b p ≡ numberAt k c p
+  same-number k p e h l a =
       let i : fieldAt k b p ≡ field.Is (beAt k b p) = sym (field-is k b p (is-there k b p (le-trans h l)) refl) in
-      i ∙ sym (agree-field k p (agree-less a h) i)
+      number-of k b p i ∙ sym (number-of k c p (agree-field k p (agree-less a h) i))
 
   module _ (p e : ℕ) (h : p < e) (l : e ≤ length b) (a : Agree b c e) (m : byteAt b p ≡ 97 → p + 1 + 1 ≤ e) (n : byteAt b p ≡ 98 → p + 1 + 4 ≤ e) where
     same-natural : (most : ℕ) → isNatural most b p ≡ isNatural most c p
@@ -123,11 +123,11 @@ module _ (b c : List ℕ) where
     same-natural most = rw (← agree-byte a h) (go (eqb (byteAt b p) 97) (eqb (byteAt b p) 98) refl refl)
       where
         judge : Bool → Bool → List ℕ → Bool
-        judge x y d = cond x (atMost (fieldAt 1 d (p + 1)) most) (cond y (atMost (fieldAt 4 d (p + 1)) most) false)
+        judge x y d = cond x (leb (numberAt 1 d (p + 1)) most) (cond y (leb (numberAt 4 d (p + 1)) most) false)
 
         go : (x y : Bool) → eqb (byteAt b p) 97 ≡ x → eqb (byteAt b p) 98 ≡ y → judge x y b ≡ judge x y c
-        go true y f g = ap (λ (o : Field). atMost o most) (same-field 1 (p + 1) e (m (eqb-true _ _ f)) l a)
-        go false true f g = ap (λ (o : Field). atMost o most) (same-field 4 (p + 1) e (n (eqb-true _ _ g)) l a)
+        go true y f g = ap (λ (n : ℕ). leb n most) (same-number 1 (p + 1) e (m (eqb-true _ _ f)) l a)
+        go false true f g = ap (λ (n : ℕ). leb n most) (same-number 4 (p + 1) e (n (eqb-true _ _ g)) l a)
         go false false f g = refl
 
     same-fits : (j : Judge) → fits j b p ≡ fits j c p

@@ -7,15 +7,13 @@ use mathlib.Core.Bool.{Bool, true, false}
 use lib.Dec.{ltb}
 use lib.ListN.{length}
 use borrow.Author.Tests.{ltb-true, ltb-false}
-use Rattle.numbers.specs.Numbers.{among, Listed, outcome, Shown}
-use Rattle.numbers.proofs.Laws.{listed-shown}
+use Rattle.numbers.specs.Numbers.{among, Listed}
+use Rattle.numbers.proofs.Laws.{outcome, Shown, listed-shown}
 use Rattle.reading.specs.declared.Cause.{Cause}
 use Rattle.reading.specs.declared.Cause.the-variants as cause
-use Rattle.reading.specs.declared.Start.{Start}
-use Rattle.reading.specs.declared.Start.the-variants as start
 use Rattle.reading.specs.Reading.{State, Result, done, no}
 use Rattle.reading.specs.Terms.{term}
-use Rattle.reading.specs.Answer.{numberOf, answer, startOutcome, readAt}
+use Rattle.reading.specs.Answer.{numberOf, answer, readAt}
 use Rattle.reading.proofs.Answers.{by-start}
 use Rattle.reading.proofs.Keeps.{Keeps, Held, keeps}
 use Rattle.reading.proofs.Bounds.{at-end}
@@ -31,10 +29,6 @@ cause-listed cause.Long = refl
 cause-listed cause.Kind = refl
 cause-listed cause.Limit = refl
 cause-listed cause.Absent = refl
-
-pub start-shown : (x : Start) → Shown (startOutcome x)
-start-shown (start.No c) = cause-listed c
-start-shown start.Reads = tt
 
 module _ (b : List ℕ) (limit : ℕ) where
   listed : Keeps b limit (λ s. s .at ≤ length b) (λ l n p s. Listed n)

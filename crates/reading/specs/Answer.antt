@@ -1,6 +1,6 @@
 -- What a reader answers: document 01's number and values for each case.
 use Prim.Native.Nat.{ℕ, _-_}
-use mathlib.Core.List.{List, [], _∷_, _++_}
+use mathlib.Core.List.{List, [], _++_}
 use mathlib.Core.Bool.{cond, _||_}
 use lib.ListN.{length, replicate}
 use lib.Dec.{ltb, eqb}
@@ -56,11 +56,6 @@ answer (no n x s p) = refusal n (s .last) x (s .begun) (s .deepest) p
 -- "Order: Limit, .. Long, then reading": whether an input of so many bytes is read, and what is answered then
 unfoldable pub starts : (limit len : ℕ) → Start
 starts limit len = cond (eqb limit 0 || ltb cap.nesting limit) (start.No cause.Limit) (cond (ltb cap.input len) (start.No cause.Long) start.Reads)
-
--- what that comes to
-abbrev pub startOutcome : Start → number.Outcome
-startOutcome (start.No c) = number.refused (numberOf c)
-startOutcome start.Reads = number.done
 
 abbrev pub started : Start → Answer → Answer
 started (start.No c) a = early (numberOf c)

@@ -5,15 +5,13 @@ use mathlib.Core.List.{List}
 use mathlib.Core.Bool.{Bool, false, cond, _||_}
 use lib.Dec.{ltb, leb, eqb}
 use lib.ListN.{length, getD}
-use Rattle.fields.specs.Field.{fieldAt}
-use Rattle.fields.specs.declared.Field.{Field}
-use Rattle.fields.specs.declared.Field.the-variants as field
+use Rattle.fields.specs.Field.{numberAt}
 use Rattle.numbers.specs.Numbers as number
 use Rattle.numbers.specs.Caps as cap
 use Rattle.rows.specs.Layout.{rowAt}
 use Rattle.reading.specs.declared.Kind.{Kind}
 use Rattle.reading.specs.declared.Kind.the-variants as kind
-use Rattle.reading.specs.Reading.{State, Result, done, no, andThen, entered, moved, reach, begin, refused, fields, pass, sized, counted}
+use Rattle.reading.specs.Reading.{State, Result, done, andThen, entered, reach, begin, refused, fields, pass, sized, counted}
 
 abbrev pub byteAt : List ℕ → ℕ → ℕ
 byteAt b i = getD b i 0
@@ -39,16 +37,11 @@ required read fits s = andThen (read s) (λ t. cond (fits (s .at)) (done t) (ref
 unfoldable pub isAtom : List ℕ → ℕ → Bool
 isAtom b p = eqb (byteAt b p) 100 || (eqb (byteAt b p) 118 || eqb (byteAt b p) 119)
 
--- "an integer child 97 or 98", from 0 to `most`. A negative one of tag 98 is 2 ^ 31 or more as it stands, which is above every `most`;
--- and of 4 bytes just the numbers up to 2147483647 stand for themselves, 0 or more (`signed-natural`, fields/proofs/Laws.antt)
-unfoldable pub atMost : Field → ℕ → Bool
-atMost (field.Is n) most = leb n most
-atMost field.Eof most = false
-
+-- "an integer child 97 or 98", from 0 to `most`: a negative one spells 2 ^ 31 or more, above every `most` (`signed-natural`, fields/proofs/Laws.antt)
 unfoldable pub isNatural : ℕ → List ℕ → ℕ → Bool
 isNatural most b p =
-    cond (eqb (byteAt b p) 97) (atMost (fieldAt 1 b (p + 1)) most)
-    (cond (eqb (byteAt b p) 98) (atMost (fieldAt 4 b (p + 1)) most) false)
+    cond (eqb (byteAt b p) 97) (leb (numberAt 1 b (p + 1)) most)
+    (cond (eqb (byteAt b p) 98) (leb (numberAt 4 b (p + 1)) most) false)
 
 unfoldable pub isPid : List ℕ → ℕ → Bool
 isPid b p = eqb (byteAt b p) 88

@@ -1,11 +1,13 @@
 // Reading, as a definition: what a reader of the term at a place has to answer (specs/), and laws of that. No reader is here; each is
-// proved against this one. In code it has the answer that they all give, and what puts one together before reading and behind it.
+// proved against this one. In code it has the answer that they all give, what puts one together before reading and behind it, and the tests
+// of a child that a row requires.
 //
 // Changed from ParsingContext and the errors of decoder.rs (michaelklishin/edp-rs, fc07dcb95d),
 // Copyright (C) 2025-2026 Michael S. Klishin and Contributors, Apache-2.0: see NOTICE.
 ghost use mathlib.Core.Path.{_≡_};
 ghost use mathlib.Core.List.{[]};
 ghost use Prim.Native.Nat.{_<_};
+ghost use Rattle.reading.specs.Terms as terms;
 ghost use Rattle.reading.specs.Answer as def;
 
 // What a segment of a path is of.
@@ -96,6 +98,38 @@ fn number(cause: Cause) -> u64
         Cause::Limit => numbers::LIMIT,
         Cause::Absent => numbers::ABSENT,
     }
+}
+
+// Whether the term at a place, which was read whole, is an atom; and whether it is an integer from 0 to `most`.
+pub fn is_atom(b: &[u8], at: usize) -> bool
+    ensures { λ r. ⌜ r ≡ terms.isAtom (now (b .entry)) at ⌝ }
+{
+    if b.len() <= at {
+        return false;
+    }
+    let tag = b[at];
+    match tag {
+        100 => true,
+        118 => true,
+        119 => true,
+        _ => false,
+    }
+}
+
+pub fn is_natural(b: &[u8], most: u64, at: usize) -> bool
+    ensures { λ r. ⌜ r ≡ terms.isNatural most (now (b .entry)) at ⌝ }
+{
+    if b.len() <= at {
+        return false;
+    }
+    let tag = b[at];
+    if tag == 97 {
+        return fields::u8_at(b, at + 1) <= most;
+    }
+    if tag == 98 {
+        return fields::u32_at(b, at + 1) <= most;
+    }
+    false
 }
 
 // Whether reading may begin: the limit is 1 to 64 and the input no longer than 16,777,216 bytes.

@@ -16,12 +16,12 @@ use Rattle.fields.specs.declared.Field.{Field}
 use Rattle.fields.specs.declared.Field.the-variants as field
 use Rattle.fields.proofs.Laws.{there, is-there, field-is, is-whole, then-is, then-eof}
 use Rattle.utf8.specs.Inner.Find.{goodBytes}
-use Rattle.literal.specs.Trim.{trimmed}
+use Rattle.literal.specs.Inner.Trim.{trimmed}
 use Rattle.literal.specs.Inner.Parse.{isLiteral}
 use Rattle.numbers.specs.Numbers as number
 use Rattle.numbers.specs.Numbers.{among, Listed}
 use Rattle.rows.specs.Row as row
-use Rattle.rows.specs.Layout.{numberText, bitsByte, bitsThen, bitString, binary, digits, rowAt}
+use Rattle.rows.specs.Layout.{numberText, bitsByte, bitsThen, digits, rowAt}
 use Rattle.rows.specs.declared.Row.{Row}
 use Rattle.rows.specs.declared.Row.the-variants.{To, No}
 use Rattle.rows.proofs.Laws.{name-to}
@@ -130,7 +130,7 @@ module _ (b c : List ℕ) where
   near-digits n p = near-then p (row.bytes b 1 p) (row.bytes c 1 p) (row.bytes b n) (row.bytes c n) (near-bytes 1 p) (near-bytes n)
 
   pub near-row : (tag p : ℕ) → Near p (rowAt b tag p) (rowAt c tag p)
-  unfolding rowAt binary bitString bitsThen row.countThen among
+  unfolding rowAt bitsThen row.countThen among
   near-row tag p =
       near-cond p (eqb tag 97) _ _ _ _ (near-bytes 1 p)
       (near-cond p (eqb tag 98) _ _ _ _ (near-bytes 4 p)

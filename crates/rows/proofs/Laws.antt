@@ -12,7 +12,7 @@ use Rattle.fields.specs.declared.Field.the-variants as field
 use Rattle.fields.specs.declared.Field.{Field}
 use Rattle.fields.proofs.Laws.{there, is-whole, then-is, then-eof, by-then}
 use Rattle.utf8.specs.Inner.Find.{goodBytes}
-use Rattle.literal.specs.Trim.{trimmed}
+use Rattle.literal.specs.Inner.Trim.{trimmed}
 use Rattle.literal.specs.Inner.Parse.{isLiteral}
 use Rattle.rows.specs.Layout.{numberText}
 use Rattle.numbers.specs.Numbers as number
@@ -20,7 +20,6 @@ use Rattle.numbers.specs.Numbers.{among, Listed}
 use Rattle.numbers.proofs.Laws.{by-test}
 use Rattle.rows.specs.Row.{no, bytes, name, countThen, countAt}
 use Rattle.rows.specs.declared.Counted.the-variants as count
-use Rattle.rows.specs.declared.Row.{Row}
 use Rattle.rows.specs.declared.Row.the-variants.{To, No}
 
 module _ (b : List ℕ) (n p : ℕ) where

@@ -1,10 +1,10 @@
 -- Document 01's term layouts: the rows without children, in its order and words. `p` is the place behind the tag.
-use Prim.Native.Nat.{ℕ, _+_}
+use Prim.Native.Nat.{ℕ}
 use mathlib.Core.List.{List}
 use mathlib.Core.Bool.{Bool, cond, _&&_, _||_}
-use lib.Dec.{eqb, leb, ltb}
-use lib.ListN.{getD, take, drop}
-use Rattle.literal.specs.Trim.{trimmed}
+use lib.Dec.{eqb, leb}
+use lib.ListN.{take, drop}
+use Rattle.literal.specs.Inner.Trim.{trimmed}
 use Rattle.literal.specs.Inner.Parse.{isLiteral}
 use Rattle.numbers.specs.Numbers as number
 use Rattle.numbers.specs.Caps as cap
@@ -22,16 +22,9 @@ numberText b p =
 unfoldable pub bitsByte : ℕ → ℕ → Bool
 bitsByte n k = cond (eqb n 0) (eqb k 8) (leb 1 k && leb k 8)
 
--- "length of 4 bytes, bits byte, bytes"; "length cap first, bits next, bytes last"
+-- "length of 4 bytes, bits byte, bytes"; "length cap first, bits next, bytes last": behind the length
 unfoldable pub bitsThen : List ℕ → ℕ → ℕ → Row
 bitsThen b n p = sized 1 b (λ k q. cond (bitsByte n k) (bytes b n q) (no number.Bits)) p
-
-unfoldable pub bitString : List ℕ → ℕ → Row
-bitString b p = counted cap.binary b (bitsThen b) p
-
--- "length of 4 bytes, bytes"
-unfoldable pub binary : List ℕ → ℕ → Row
-binary b p = counted cap.binary b (bytes b) p
 
 -- "sign byte (nonzero is negative), n digit bytes, least first"
 unfoldable pub digits : List ℕ → ℕ → ℕ → Row
@@ -47,8 +40,8 @@ rowAt b tag p =
     (cond (eqb tag 119) (sized 1 b (name b) p)
     (cond (eqb tag 106) (To p)
     (cond (eqb tag 107) (sized 2 b (bytes b) p)
-    (cond (eqb tag 109) (binary b p)
-    (cond (eqb tag 77) (bitString b p)
+    (cond (eqb tag 109) (counted cap.binary b (bytes b) p)
+    (cond (eqb tag 77) (counted cap.binary b (bitsThen b) p)
     (cond (eqb tag 110) (sized 1 b (digits b) p)
     (cond (eqb tag 111) (sized 4 b (digits b) p)
     (no number.Tag))))))))))))

@@ -7,7 +7,6 @@ use lib.ListN.{take, drop}
 use Rattle.fields.specs.Field.{holds, numberThen}
 use Rattle.utf8.specs.Inner.Find.{goodBytes}
 use Rattle.numbers.specs.Numbers.{Eof, Text, Size}
-use Rattle.numbers.specs.Numbers as number
 use Rattle.rows.specs.declared.Counted.{Counted}
 use Rattle.rows.specs.declared.Counted.the-variants as count
 use Rattle.rows.specs.declared.Row.{Row}
@@ -45,12 +44,3 @@ countAt most b p = countThen count.No most b (λ n q. count.Is n) p
 
 abbrev pub counted : ℕ → List ℕ → (ℕ → ℕ → Row) → ℕ → Row
 counted most b f p = countThen no most b f p
-
--- what each comes to
-abbrev pub rowOutcome : Row → number.Outcome
-rowOutcome (To p) = number.done
-rowOutcome (No n x) = number.refused n
-
-abbrev pub countedOutcome : Counted → number.Outcome
-countedOutcome (count.Is n) = number.done
-countedOutcome (count.No n) = number.refused n

@@ -4,6 +4,7 @@
 // Copyright (C) 2025-2026 Michael S. Klishin and Contributors, Apache-2.0: see NOTICE.
 use fields::Field;
 ghost use mathlib.Core.Path.{_≡_};
+ghost use Rattle.numbers.specs.Caps as cap;
 ghost use Rattle.rows.specs.Row as row;
 ghost use Rattle.rows.specs.Layout as layout;
 
@@ -134,7 +135,7 @@ fn string(b: &[u8], at: usize) -> Row
 
 // Tag 109: a length of four bytes within the cap, and bytes.
 fn binary(b: &[u8], at: usize) -> Row
-    ensures { λ r. ⌜ r ≡ layout.binary (now (b .entry)) at ⌝ }
+    ensures { λ r. ⌜ r ≡ row.counted cap.binary (now (b .entry)) (row.bytes (now (b .entry))) at ⌝ }
 {
     let size = count(b, numbers::BINARY, at);
     match size {
@@ -145,7 +146,7 @@ fn binary(b: &[u8], at: usize) -> Row
 
 // Tag 77: a length of four bytes within the cap, the bits byte, and bytes.
 fn bit_string(b: &[u8], at: usize) -> Row
-    ensures { λ r. ⌜ r ≡ layout.bitString (now (b .entry)) at ⌝ }
+    ensures { λ r. ⌜ r ≡ row.counted cap.binary (now (b .entry)) (layout.bitsThen (now (b .entry))) at ⌝ }
 {
     let length = count(b, numbers::BINARY, at);
     match length {

@@ -27,12 +27,17 @@ use Rattle.literal.proofs.literal.Reads as literal-literal
 use Rattle.rows.proofs.row_at.Reads as rows-row-at
 use Rattle.rows.proofs.count.Reads as rows-count
 use Rattle.rows.proofs.name.Reads as rows-name
+use Rattle.shortcut.proofs.end_at.Reads as shortcut-end-at
 use Rattle.reading.proofs.kind_number.Reads as reading-kind-number
 use Rattle.reading.proofs.refusal.Reads as reading-refusal
+use Rattle.reading.proofs.is_atom.Reads as reading-is-atom
+use Rattle.reading.proofs.is_natural.Reads as reading-is-natural
 use Rattle.reading.proofs.starts.Reads as reading-starts
 use Rattle.terms.proofs.read.Reads as terms-read
 use Rattle.heads.proofs.head.Reads as heads-head
 use Rattle.heads.proofs.part.Reads as heads-part
+use Rattle.headwords.proofs.words.Reads as headwords-words
+use Rattle.headwords.proofs.place.Reads as headwords-place
 use Rattle.layouts.proofs.shape_at.Reads as layouts-shape-at
 use Rattle.layouts.proofs.short_at.Reads as layouts-short-at
 use Rattle.layouts.proofs.inner_at.Reads as layouts-inner-at
@@ -102,12 +107,17 @@ pub record Determined : Type 0 where
   pub rows-row-at : Answer rows-row-at.Post
   pub rows-count : Answer rows-count.Post
   pub rows-name : Answer rows-name.Post
+  pub shortcut-end-at : Answer shortcut-end-at.Post
   pub reading-kind-number : Answer reading-kind-number.Post
   pub reading-refusal : Answer reading-refusal.Post
+  pub reading-is-atom : Answer reading-is-atom.Post
+  pub reading-is-natural : Answer reading-is-natural.Post
   pub reading-starts : Answer reading-starts.Post
   pub terms-read : Answer terms-read.Post
   pub heads-head : Answer heads-head.Post
   pub heads-part : Part heads-part.Post (λ κ r. r .now)
+  pub headwords-words : Answer headwords-words.Post
+  pub headwords-place : Answer headwords-place.Post
   pub layouts-shape-at : Answer layouts-shape-at.Post
   pub layouts-short-at : Answer layouts-short-at.Post
   pub layouts-inner-at : Answer layouts-inner-at.Post
@@ -173,12 +183,17 @@ determined = record {
   rows-row-at = λ κ a x y s t p q. equal p q;
   rows-count = λ κ a x y s t p q. equal p q;
   rows-name = λ κ a x y s t p q. equal p q;
+  shortcut-end-at = λ κ a x y s t p q. equal p q;
   reading-kind-number = λ κ a x y s t p q. equal (p .0) (q .0);
   reading-refusal = λ κ a x y s t p q. equal p q;
+  reading-is-atom = λ κ a x y s t p q. equal p q;
+  reading-is-natural = λ κ a x y s t p q. equal p q;
   reading-starts = λ κ a x y s t p q. equal p q;
   terms-read = λ κ a x y s t p q. equal p q;
   heads-head = λ κ a x y s t p q. equal p q;
   heads-part = λ κ a x y s t p q. equal p q;
+  headwords-words = λ κ a x y s t p q. equal p q;
+  headwords-place = λ κ a x y s t p q. equal p q;
   layouts-shape-at = λ κ a x y s t p q. equal p q;
   layouts-short-at = λ κ a x y s t p q. equal p q;
   layouts-inner-at = λ κ a x y s t p q. equal p q;

@@ -3,26 +3,37 @@
 -- Determined.antt. A request that adds a number adds it to the list. Assumes nothing.
 use Prim.Native.Nat.{ℕ}
 use native.Mathlib.Omega.{arith}
-use mathlib.Core.Path.{_≡_}
-use mathlib.Core.List.{List, _∷_}
-use Rattle.numbers.specs.Numbers.{among, Outcome, outcome, Shown}
-use Rattle.numbers.proofs.Laws.{listed-shown}
-use Rattle.fields.specs.Field.{fieldOutcome, integerOutcome}
-use Rattle.fields.proofs.Laws.{field-shown, integer-shown}
-use Rattle.rows.specs.Row.{rowOutcome, countedOutcome}
+use mathlib.Core.Path.{_≡_, refl, ap, sym, _∙_}
+use mathlib.Core.Bool.{true}
+use mathlib.Core.List.{List, [], _∷_}
+use lib.ListN.{getD}
+use Rattle.numbers.specs.Numbers as number
+use Rattle.numbers.specs.Numbers.{among, refusals, Listed}
+use Rattle.numbers.proofs.Laws.{shown-listed}
+use Rattle.fields.specs.declared.Field.{Field}
+use Rattle.fields.specs.declared.Field.the-variants as field
+use Rattle.fields.specs.declared.Integer.{Integer}
+use Rattle.fields.specs.declared.Integer.the-variants as integer
+use Rattle.rows.specs.declared.Row.{Row}
 use Rattle.rows.specs.declared.Row.the-variants as row
-use Rattle.rows.proofs.Outcomes.{row-shown, name-shown, count-shown}
-use Rattle.reading.specs.Answer.{startOutcome}
-use Rattle.reading.proofs.Outcomes.{cause-listed, start-shown, read-shown}
-use Rattle.heads.specs.Run.{valueOutcome}
-use Rattle.heads.proofs.Outcomes.{head-shown}
+use Rattle.rows.specs.declared.Counted.{Counted}
+use Rattle.rows.specs.declared.Counted.the-variants as count
+use Rattle.rows.proofs.Outcomes.{row-listed, count-listed, row-shown, name-shown, count-shown}
+use Rattle.reading.specs.declared.Cause.{Cause}
+use Rattle.reading.specs.declared.Start.{Start}
+use Rattle.reading.specs.declared.Start.the-variants as start
+use Rattle.reading.specs.Answer.{numberOf}
+use Rattle.reading.proofs.Outcomes.{cause-listed, read-shown}
+use Rattle.heads.specs.declared.Value.{Value}
+use Rattle.heads.specs.declared.Value.the-variants as value
+use Rattle.heads.proofs.Outcomes.{value-listed, head-shown}
 use Rattle.tape.proofs.Accepts as tape
 use Rattle.lookup.proofs.Meaning as lookup
-use Rattle.cache.specs.Names.{gotOutcome}
-use Rattle.cache.proofs.Outcomes.{got-shown, header-shown}
+use Rattle.cache.specs.declared.Got.{Got}
+use Rattle.cache.specs.declared.Got.the-variants as got
+use Rattle.cache.proofs.Outcomes.{got-listed, got-shown, header-shown}
 use Rattle.fragments.proofs.Outcomes.{first-shown, next-shown}
-use Rattle.jig.specs.Shown.{FirstShown}
-use Rattle.jig.proofs.Outcomes.{answer-told, head-told, name-told}
+use Rattle.jig.proofs.Outcomes.{FirstShown, answer-told, head-told, name-told}
 use Rattle.fields.proofs.be_u8.Reads as fields-be-u8
 use Rattle.fields.proofs.be_u16.Reads as fields-be-u16
 use Rattle.fields.proofs.be_u32.Reads as fields-be-u32
@@ -52,15 +63,26 @@ use Rattle.jig.proofs.sill_header.Reads as jig-sill-header
 use Rattle.jig.proofs.sill_first.Reads as jig-sill-first
 use Rattle.jig.proofs.sill_next.Reads as jig-sill-next
 
+-- numbers told: there is a first, and it is Done or stands in the list
+pub record First (told : List ℕ) : Type 0 where
+  pub first : ℕ
+  pub rest : List ℕ
+  pub is : told ≡ first ∷ rest
+  pub listed : ¬ (first ≡ 0) → Listed first
+
 -- a promise, of the lifetimes of what is lent, the arguments, the answer, and the parameters at the end
 module _ {L : Type 0} {A R S : L → Type 0} (Promise : (κ : L) → A κ → R κ → S κ → Type 0) where
-  -- whatever it is called with, the answer is Done or refused by a number of the list
-  abbrev Answers : ((κ : L) → R κ → Outcome) → Type 0
-  Answers comes-to = (κ : L) (a : A κ) (r : R κ) (s : S κ) → Promise κ a r s → Shown (comes-to κ r)
+  -- whatever it is called with: where the answer is a refusal by a number, the number stands in the list
+  abbrev Refuses : ((κ : L) → R κ → ℕ → Type 0) → Type 0
+  Refuses by = (κ : L) (a : A κ) (r : R κ) (s : S κ) → Promise κ a r s → (n : ℕ) → by κ r n → Listed n
+
+  -- an answer has a number, which is Done or stands in the list
+  abbrev Answers : ((κ : L) → R κ → ℕ) → Type 0
+  Answers number = (κ : L) (a : A κ) (r : R κ) (s : S κ) → Promise κ a r s → ¬ (number κ r ≡ 0) → Listed (number κ r)
 
   -- an exported call tells its answer in a run that is lent: the first number there is such a one
   abbrev Tells : ((κ : L) → S κ → List ℕ) → Type 0
-  Tells told = (κ : L) (a : A κ) (r : R κ) (s : S κ) → Promise κ a r s → FirstShown (told κ s)
+  Tells told = (κ : L) (a : A κ) (r : R κ) (s : S κ) → Promise κ a r s → First (told κ s)
 
   -- it allows no such answer; nothing that begins so is told
   abbrev Never : ((κ : L) → R κ) → Type 0
@@ -69,26 +91,48 @@ module _ {L : Type 0} {A R S : L → Type 0} (Promise : (κ : L) → A κ → R 
   abbrev NeverTells : ((κ : L) → S κ → List ℕ) → ℕ → Type 0
   NeverTells told n = (κ : L) (a : A κ) (r : R κ) (s : S κ) (l : List ℕ) → Promise κ a r s → ¬ (told κ s ≡ n ∷ l)
 
+-- of each type of answers, which are refusals, and by which number
+abbrev fieldBy : Field → ℕ → Type 0
+fieldBy r n = (r ≡ field.Eof) × (n ≡ number.Eof)
+
+abbrev integerBy : Integer → ℕ → Type 0
+integerBy r n = (r ≡ integer.Eof) × (n ≡ number.Eof)
+
+abbrev rowBy : Row → ℕ → Type 0
+rowBy r n = (x : ℕ) × (r ≡ row.No n x)
+
+abbrev countedBy : Counted → ℕ → Type 0
+countedBy r n = r ≡ count.No n
+
+abbrev startBy : Start → ℕ → Type 0
+startBy r n = (c : Cause) × ((r ≡ start.No c) × (n ≡ numberOf c))
+
+abbrev valueBy : Value → ℕ → Type 0
+valueBy r n = (o x : ℕ) × (r ≡ value.No n o x)
+
+abbrev gotBy : Got → ℕ → Type 0
+gotBy r n = r ≡ got.No n
+
 pub record Numbered : Type 0 where
-  pub fields-be-u8 : Answers fields-be-u8.Post (λ κ r. fieldOutcome r)
-  pub fields-be-u16 : Answers fields-be-u16.Post (λ κ r. fieldOutcome r)
-  pub fields-be-u32 : Answers fields-be-u32.Post (λ κ r. fieldOutcome r)
-  pub fields-be-u64 : Answers fields-be-u64.Post (λ κ r. fieldOutcome r)
-  pub fields-be-i32 : Answers fields-be-i32.Post (λ κ r. integerOutcome r)
-  pub rows-row-at : Answers rows-row-at.Post (λ κ r. rowOutcome r)
-  pub rows-count : Answers rows-count.Post (λ κ r. countedOutcome r)
-  pub rows-name : Answers rows-name.Post (λ κ r. rowOutcome r)
-  pub reading-refusal : Answers reading-refusal.Post (λ κ r. outcome (r .number))
-  pub reading-starts : Answers reading-starts.Post (λ κ r. startOutcome r)
-  pub terms-read : Answers terms-read.Post (λ κ r. outcome (r .number))
-  pub heads-head : Answers heads-head.Post (λ κ r. valueOutcome (r .value))
-  pub tape-read : Answers tape-read.Post (λ κ r. outcome (r .number))
-  pub lookup-find-name : Answers lookup-find-name.Post (λ κ r. outcome (r .number))
-  pub lookup-find-number : Answers lookup-find-number.Post (λ κ r. outcome (r .number))
-  pub cache-get : Answers cache-get.Post (λ κ r. gotOutcome r)
-  pub cache-header-read : Answers cache-header-read.Post (λ κ r. outcome (r .number))
-  pub fragments-first : Answers fragments-first.Post (λ κ r. outcome (r .number))
-  pub fragments-next : Answers fragments-next.Post (λ κ r. outcome (r .number))
+  pub fields-be-u8 : Refuses fields-be-u8.Post (λ κ r. fieldBy r)
+  pub fields-be-u16 : Refuses fields-be-u16.Post (λ κ r. fieldBy r)
+  pub fields-be-u32 : Refuses fields-be-u32.Post (λ κ r. fieldBy r)
+  pub fields-be-u64 : Refuses fields-be-u64.Post (λ κ r. fieldBy r)
+  pub fields-be-i32 : Refuses fields-be-i32.Post (λ κ r. integerBy r)
+  pub rows-row-at : Refuses rows-row-at.Post (λ κ r. rowBy r)
+  pub rows-count : Refuses rows-count.Post (λ κ r. countedBy r)
+  pub rows-name : Refuses rows-name.Post (λ κ r. rowBy r)
+  pub reading-refusal : Refuses reading-refusal.Post (λ κ r n. n ≡ r .number)
+  pub reading-starts : Refuses reading-starts.Post (λ κ r. startBy r)
+  pub terms-read : Answers terms-read.Post (λ κ r. r .number)
+  pub heads-head : Refuses heads-head.Post (λ κ r. valueBy (r .value))
+  pub tape-read : Answers tape-read.Post (λ κ r. r .number)
+  pub lookup-find-name : Answers lookup-find-name.Post (λ κ r. r .number)
+  pub lookup-find-number : Answers lookup-find-number.Post (λ κ r. r .number)
+  pub cache-get : Refuses cache-get.Post (λ κ r. gotBy r)
+  pub cache-header-read : Answers cache-header-read.Post (λ κ r. r .number)
+  pub fragments-first : Answers fragments-first.Post (λ κ r. r .number)
+  pub fragments-next : Answers fragments-next.Post (λ κ r. r .number)
   pub jig-sill-read : Tells jig-sill-read.Post (λ κ s. s .1 .1 .1 .0 .now)
   pub jig-sill-term : Tells jig-sill-term.Post (λ κ s. s .1 .1 .1 .0 .now)
   pub jig-sill-find-name : Tells jig-sill-find-name.Post (λ κ s. s .1 .1 .1 .1 .0 .now)
@@ -99,43 +143,55 @@ pub record Numbered : Type 0 where
   pub jig-sill-first : Tells jig-sill-first.Post (λ κ s. s .1 .0 .now)
   pub jig-sill-next : Tells jig-sill-next.Post (λ κ s. s .1 .0 .now)
 
+begins : (told : List ℕ) → FirstShown told → First told
+begins [] h = absurd h
+begins (n ∷ l) h = record { first = n; rest = l; is = refl; listed = shown-listed n h }
+
+eof : {n : ℕ} → n ≡ number.Eof → Listed n
+unfolding among
+eof e = rw e refl
+
 pub numbered : Numbered
 numbered = record {
-  fields-be-u8 = λ κ a r s p. field-shown r;
-  fields-be-u16 = λ κ a r s p. field-shown r;
-  fields-be-u32 = λ κ a r s p. field-shown r;
-  fields-be-u64 = λ κ a r s p. field-shown r;
-  fields-be-i32 = λ κ a r s p. integer-shown r;
-  rows-row-at = λ κ a r s p. rw p (row-shown _ _ _);
-  rows-count = λ κ a r s p. rw p (count-shown _ _ _);
-  rows-name = λ κ a r s p. rw p (name-shown _ _ _);
-  reading-refusal = λ κ a r s p. rw p (listed-shown _ (cause-listed (a .0)));
-  reading-starts = λ κ a r s p. start-shown r;
-  terms-read = λ κ a r s p. rw p (read-shown _ _ _);
-  heads-head = λ κ a r s p. rw p (head-shown _ _);
-  tape-read = λ κ a r s p. tape.answer-shown p;
-  lookup-find-name = λ κ a r s p. lookup.answer-shown p;
-  lookup-find-number = λ κ a r s p. lookup.answer-shown p;
-  cache-get = λ κ a r s p. rw p (got-shown _ _ _);
-  cache-header-read = λ κ a r s p. rw (p .0) (header-shown _ _);
-  fragments-first = λ κ a r s p. rw p (first-shown _);
-  fragments-next = λ κ a r s p. rw p (next-shown _);
-  jig-sill-read = λ κ a r s p. answer-told (λ x q. tape.answer-shown q) p;
-  jig-sill-term = λ κ a r s p. answer-told (λ x q. rw q (read-shown _ _ _)) p;
-  jig-sill-find-name = λ κ a r s p. answer-told (λ x q. lookup.answer-shown q) p;
-  jig-sill-find-number = λ κ a r s p. answer-told (λ x q. lookup.answer-shown q) p;
-  jig-sill-head = λ κ a r s p. rw p (head-told _ _);
-  jig-sill-get = λ κ a r s p. rw p (name-told _ _ _);
-  jig-sill-header = λ κ a r s p. rw (p .0) (header-shown _ _);
-  jig-sill-first = λ κ a r s p. rw p (first-shown _);
-  jig-sill-next = λ κ a r s p. rw p (next-shown _);
+  fields-be-u8 = λ κ a r s p n h. eof (h .1);
+  fields-be-u16 = λ κ a r s p n h. eof (h .1);
+  fields-be-u32 = λ κ a r s p n h. eof (h .1);
+  fields-be-u64 = λ κ a r s p n h. eof (h .1);
+  fields-be-i32 = λ κ a r s p n h. eof (h .1);
+  rows-row-at = λ κ a r s p n h. row-listed n (h .0) (rw p (row-shown _ _ _)) (h .1);
+  rows-count = λ κ a r s p n h. count-listed n (rw p (count-shown _ _ _)) h;
+  rows-name = λ κ a r s p n h. row-listed n (h .0) (rw p (name-shown _ _ _)) (h .1);
+  reading-refusal = λ κ a r s p n h. rw (h, p) (cause-listed (a .0));
+  reading-starts = λ κ a r s p n h. rw (h .1 .1) (cause-listed (h .0));
+  terms-read = λ κ a r s p. shown-listed _ (rw p (read-shown _ _ _));
+  heads-head = λ κ a r s p n h. value-listed n (h .0) (h .1) (rw p (head-shown _ _)) (h .2);
+  tape-read = λ κ a r s p. shown-listed _ (tape.answer-shown p);
+  lookup-find-name = λ κ a r s p. shown-listed _ (lookup.answer-shown p);
+  lookup-find-number = λ κ a r s p. shown-listed _ (lookup.answer-shown p);
+  cache-get = λ κ a r s p n h. got-listed n (rw p (got-shown _ _ _)) h;
+  cache-header-read = λ κ a r s p. shown-listed _ (rw (p .0) (header-shown _ _));
+  fragments-first = λ κ a r s p. shown-listed _ (rw p (first-shown _));
+  fragments-next = λ κ a r s p. shown-listed _ (rw p (next-shown _));
+  jig-sill-read = λ κ a r s p. begins _ (answer-told (λ x q. tape.answer-shown q) p);
+  jig-sill-term = λ κ a r s p. begins _ (answer-told (λ x q. rw q (read-shown _ _ _)) p);
+  jig-sill-find-name = λ κ a r s p. begins _ (answer-told (λ x q. lookup.answer-shown q) p);
+  jig-sill-find-number = λ κ a r s p. begins _ (answer-told (λ x q. lookup.answer-shown q) p);
+  jig-sill-head = λ κ a r s p. begins _ (rw p (head-told _ _));
+  jig-sill-get = λ κ a r s p. begins _ (rw p (name-told _ _ _));
+  jig-sill-header = λ κ a r s p. begins _ (rw (p .0) (header-shown _ _));
+  jig-sill-first = λ κ a r s p. begins _ (rw p (first-shown _));
+  jig-sill-next = λ κ a r s p. begins _ (rw p (next-shown _));
 }
 
 -- What this rules out: a refusal by 0, which would be taken for Done, and a number that the list doesn't have.
 pub no-zero : (x : ℕ) → Never rows-row-at.Post (λ κ. row.No 0 x)
 unfolding among
-no-zero x κ a s p = let h = numbered .rows-row-at κ a (row.No 0 x) s p in absurd (let z : _≡_ {A = ℕ} 0 1 = cc in omega arith)
+no-zero x κ a s p = let h = numbered .rows-row-at κ a (row.No 0 x) s p 0 (x, refl) in absurd (let z : _≡_ {A = ℕ} 0 1 = cc in omega arith)
 
 pub no-other : NeverTells jig-sill-head.Post (λ κ s. s .1 .1 .0 .now) 255
 unfolding among
-no-other κ a r s l p e = let h = rw e at (numbered .jig-sill-head κ a r s p) in absurd (let z : _≡_ {A = ℕ} 0 1 = cc in omega arith)
+no-other κ a r s l p e =
+    let f = numbered .jig-sill-head κ a r s p in
+    let i : f .first ≡ 255 = ap (λ (t : List ℕ). getD t 0 0) (sym (f .is) ∙ e) in
+    let h = f .listed (λ z. omega arith) in
+    absurd (let z : among 255 refusals ≡ true = rw i at h in let y : _≡_ {A = ℕ} 0 1 = cc in omega arith)

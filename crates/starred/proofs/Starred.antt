@@ -11,7 +11,7 @@ use Rattle.fields.specs.Be.{be, beAt, signed}
 use Rattle.fields.specs.Field.{holds, fieldAt}
 use Rattle.rows.specs.Row as row
 use Rattle.numbers.specs.Numbers as number
-use Rattle.rows.specs.Layout.{rowAt, bitString, bitsThen, bitsByte}
+use Rattle.rows.specs.Layout.{rowAt, bitsThen, bitsByte}
 use Rattle.reading.specs.declared.Answer.{Answer}
 use Rattle.reading.specs.declared.Kind.the-variants as kind
 use Rattle.reading.specs.declared.Segment.{Segment}
@@ -26,7 +26,8 @@ use Rattle.agree.proofs.HeadIs.{head-is}
 use Rattle.tape.specs.Read.{ended, wholeFrom, recordIn, readAll}
 use Rattle.lookup.specs.Lookup.{Looked, number as integer}
 use Rattle.lookup.proofs.Examples.{last-wins}
-use Rattle.cache.specs.Names.{storeBytes, name, view}
+use Rattle.cache.specs.Names.{storeBytes}
+use Rattle.cache.specs.Inner.Map.{name, view}
 use Rattle.cache.specs.Header.{Said, headerIn, markedAll, storedAll}
 use Rattle.cache.proofs.Marks.{marked-filled}
 use Rattle.cache.proofs.Stores.{stored-same}
@@ -88,7 +89,7 @@ unfolding headerIn
 eof = rw (header.examples .long)
 
 pub starred : Starred
-unfolding readAll recordIn wholeFrom ended readAt starts answer behind bitString bitsThen bitsByte
+unfolding readAll recordIn wholeFrom ended readAt starts answer behind bitsThen bitsByte
 starred = record {
   empty = λ room. refl;
   nothing = λ room. refl;

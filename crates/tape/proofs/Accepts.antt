@@ -1,19 +1,19 @@
 -- What a promise of reading says: which inputs are accepted, by the layouts alone; what the tape of an accepted one is; and that the
 -- promise leaves no choice. Assumes nothing.
-use Prim.Native.Nat.{ℕ, suc, _+_, _-_, _*_, _≤_, _<_}
+use Prim.Native.Nat.{ℕ, suc, _+_, _-_, _*_, _≤_}
 use native.Mathlib.Omega.{arith}
 use mathlib.Core.Path.{_≡_, refl, ap, sym, _∙_}
 use mathlib.Core.Logic.{_↔_}
 use mathlib.Core.List.{List, [], _∷_}
-use mathlib.Core.Bool.{Bool, true, false, cond, _||_}
+use mathlib.Core.Bool.{Bool, true, false, cond}
 use lib.Dec.{ltb, eqb}
 use lib.ListN.{length, getD, drop, length-append}
 use lib.Seq.{take-all, take-append-seam, drop-at}
 use borrow.Author.Tests.{ltb-false, eqb-true, eqb-false, eq-eqb}
 use Rattle.numbers.specs.Caps as cap
 use Rattle.numbers.specs.Numbers as number
-use Rattle.numbers.specs.Numbers.{among, Listed, outcome, Shown}
-use Rattle.numbers.proofs.Laws.{listed-shown}
+use Rattle.numbers.specs.Numbers.{among, Listed}
+use Rattle.numbers.proofs.Laws.{outcome, Shown, listed-shown}
 use Rattle.reading.specs.declared.Answer.{Answer}
 use Rattle.reading.specs.Answer.{refusal, early, readAt}
 use Rattle.reading.proofs.Answers.{by-start}
@@ -23,7 +23,7 @@ use Rattle.reading.proofs.Outcomes.{read-shown}
 use Rattle.layouts.specs.Tree.{Tree, Stands, bytes, size, depth}
 use Rattle.accepts.proofs.Accepts.{read-sound, read-complete}
 use Rattle.tape.specs.Cells.{cellWords, words, taped}
-use Rattle.tape.specs.Read.{ended, wholeFrom, recordIn, readAll, TapeAfter, Accepted, Promised}
+use Rattle.tape.specs.Read.{ended, wholeFrom, recordIn, readAll, Accepted, Promised}
 use Rattle.tape.specs.Spans.{Nested, OnePerTerm, startAt, endAt}
 use Rattle.tape.proofs.Words.{words-length}
 use Rattle.tape.proofs.Reading.{read-on, whole-done, behind-131}
@@ -174,7 +174,7 @@ module _ {b : List ℕ} {limit : ℕ} {r : Answer} {old new : List ℕ} (p : Pro
 
   -- a refused read leaves the tape
   pub untouched : ¬ (r .number ≡ 0) → new ≡ old
-  untouched h = p .left .refused h
+  untouched h = p .refused h
 
   -- the tape of a read that was Done
   module _ (d : r .number ≡ 0) where
@@ -186,7 +186,7 @@ module _ {b : List ℕ} {limit : ℕ} {r : Answer} {old new : List ℕ} (p : Pro
     accepted = sound b limit (length old) is-done
 
     wrote : new ≡ taped (accepted .tree) old
-    wrote = p .left .done d (accepted .tree) (accepted .laid) (accepted .is)
+    wrote = p .done d (accepted .tree) (accepted .laid) (accepted .is)
 
     -- as many terms were begun as there are
     pub cells : r .begun ≡ size (accepted .tree)
@@ -230,7 +230,7 @@ determined {b} {limit} {r} {s} {old} {new} {other} p q = (e, go (eqb (r .number)
     go true h =
         let d = eqb-true (r .number) 0 h in
         let a = accepted p d in
-        p .left .done d (a .tree) (a .laid) (a .is) ∙ sym (q .left .done (ap (λ (a : Answer). a .number) (sym e) ∙ d) (a .tree) (a .laid) (a .is))
+        p .done d (a .tree) (a .laid) (a .is) ∙ sym (q .done (ap (λ (a : Answer). a .number) (sym e) ∙ d) (a .tree) (a .laid) (a .is))
     go false h =
         let n = eqb-false (r .number) 0 h in
-        p .left .refused n ∙ sym (q .left .refused (λ z. n (ap (λ (a : Answer). a .number) e ∙ z)))
+        p .refused n ∙ sym (q .refused (λ z. n (ap (λ (a : Answer). a .number) e ∙ z)))

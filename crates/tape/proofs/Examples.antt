@@ -26,7 +26,8 @@ use Rattle.layouts.specs.Nodes.{Node, nodes, nodesAll}
 use Rattle.layouts.proofs.Shapes.{unique}
 use Rattle.tape.specs.Cells.{cellWords, cellOf, words, taped}
 use Rattle.tape.specs.Read.{wholeFrom, Promised}
-use Rattle.tape.specs.Spans.{tagAt, OnePerTerm}
+use Rattle.tape.specs.Spans.{OnePerTerm}
+use Rattle.tape.specs.Inner.Fill.{tagAt}
 use Rattle.tape.proofs.Reading.{read-on, whole-refused, whole-trailing, whole-room, whole-done, behind-131}
 
 -- what a promised call answers and leaves, by what the reading behind byte 131 comes to
@@ -39,7 +40,7 @@ module _ {l : List ℕ} {r : Answer} {old new : List ℕ} (short : suc (length l
   reads {o} e = sym (answers.read-on (131 ∷ l) 1 64 o (λ z. omega arith) (omega arith) short (sym e))
 
   left-alone : {a : Answer} → ¬ (a .number ≡ 0) → a ≡ wholeFrom (131 ∷ l) 1 64 (length old) → (r ≡ a) × (new ≡ old)
-  left-alone h e = (whole e, p .left .refused (rw (whole e) h))
+  left-alone h e = (whole e, p .refused (rw (whole e) h))
 
   refused : {n x : ℕ} {s : State} {way : List Segment} → behind (131 ∷ l) 64 ≡ no n x s way → ¬ (n ≡ 0) → (r ≡ answer (no n x s way)) × (new ≡ old)
   unfolding answer
@@ -74,7 +75,7 @@ module _ {r : Answer} {old new : List ℕ} (h : 5 ≤ length old) (p : Promised 
 
   nil-tape : new ≡ 106 ∷ 1 ∷ 2 ∷ 0 ∷ 1 ∷ drop 5 old
   unfolding answer bytes bytesAll size sizes words nodes nodesAll flatMap taped
-  nil-tape = p .left .done (rw nil-done refl) (leaf 106 []) (row layout.nil) refl
+  nil-tape = p .done (rw nil-done refl) (leaf 106 []) (row layout.nil) refl
 
 -- 131 104 1 106: its reading, and with room for its cells
 tuple : behind (131 ∷ 104 ∷ 1 ∷ 106 ∷ []) 64 ≡ done (stands 4 3 2 2)
@@ -88,7 +89,7 @@ module _ {r : Answer} {old new : List ℕ} (h : 10 ≤ length old) (p : Promised
   tuple-tape : new ≡ 104 ∷ 1 ∷ 4 ∷ 0 ∷ 2 ∷ 106 ∷ 3 ∷ 4 ∷ 0 ∷ 1 ∷ drop 10 old
   unfolding answer be bytes bytesAll count size sizes words nodes nodesAll flatMap taped
   tuple-tape =
-      p .left .done (rw tuple-done refl) (node 104 (1 ∷ []) (more (leaf 106 []) none) [])
+      p .done (rw tuple-done refl) (node 104 (1 ∷ []) (more (leaf 106 []) none) [])
       (small-tuple exact (one-more (row layout.nil) no-more)) refl
 
 -- "a reader that refuses everything": where there is room, 131 106 isn't refused
@@ -139,7 +140,7 @@ pub folded-tail : {r : Answer} {old new : List ℕ} → 25 ≤ length old →
 unfolding answer behind be bytes bytesAll count size sizes words nodes nodesAll flatMap taped
 folded-tail {r} h p =
     let e : r ≡ answer (done (stands 16 15 5 3)) = goes (omega arith) p refl (omega arith) h in
-    (rw e refl, p .left .done (rw e refl) (one-then 1 (one-then 2 (leaf 106 []))) (one-laid (one-laid (row layout.nil))) refl)
+    (rw e refl, p .done (rw e refl) (one-then 1 (one-then 2 (leaf 106 []))) (one-laid (one-laid (row layout.nil))) refl)
 
 -- "Only a Done read writes the tape": a reader that writes cells before it knows of the refusal. 131 104 2 97 5 is Eof at 5, path tuple:1,
 -- and nothing is written, whatever is lent
@@ -163,7 +164,7 @@ printed {r} h p =
       rw e refl,
       rw e refl,
       rw e refl,
-      p .left .done (rw e refl) (node 104 (2 ∷ []) (more (leaf 97 (5 ∷ [])) (more (leaf 119 (1 ∷ 97 ∷ [])) none)) [])
+      p .done (rw e refl) (node 104 (2 ∷ []) (more (leaf 97 (5 ∷ [])) (more (leaf 119 (1 ∷ 97 ∷ [])) none)) [])
           (small-tuple exact (one-more (row (layout.small-integer refl)) (one-more (named 97 refl refl) no-more)))
           refl,
     )

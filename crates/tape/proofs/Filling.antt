@@ -16,8 +16,8 @@ use Rattle.layouts.specs.Layout.{Laid, AllLaid, one-more}
 use Rattle.layouts.specs.Inner.Shape.{ends, shapeAt, shapeBy, shapeOf, shortAt}
 use Rattle.layouts.proofs.Stands.{left, right, byte, behind}
 use Rattle.layouts.proofs.Shapes.{by-tag, shape-is, kids-laid, one-leaf, short-is, unique}
-use Rattle.tape.specs.Cells.{cellWords, cell, words, wordsAll}
-use Rattle.tape.specs.Inner.Fill.{opened, closed, lay, Good, Filled}
+use Rattle.tape.specs.Cells.{cellWords, words}
+use Rattle.tape.specs.Inner.Fill.{cell, wordsAll, opened, closed, lay, Good, Filled}
 use Rattle.tape.proofs.Words.{words-node, wordsAll-none, wordsAll-more, words-length}
 use Rattle.tape.proofs.Stores.{sets-append, cell-closed, length-closed, length-opened, end-read, size-read, parent-read, before-laid, written-over, closed-again}
 
@@ -234,7 +234,7 @@ short-shape b at {r} e h = ap ends e ∙ sym (short-is b at (λ z. h (e ∙ z)))
 -- and so does the tag of a small integer
 pub small-shape : (b : List ℕ) (at : ℕ) → at < length b → length b ≤ cap.input → getD b at 0 ≡ 97 → ends (at + 2) ≡ shapeAt b at
 unfolding shapeBy
-small-shape b at h l e = by-tag b at 97 h l e
+small-shape b at h l e = by-tag b at 97 (h, l) e
 
 -- no children, no bytes behind them
 bare : {tag : ℕ} {front back : List ℕ} → Laid (node tag front none back) → back ≡ []

@@ -20,7 +20,7 @@ use Rattle.accepts.proofs.Accepts.{read-sound}
 use Rattle.layouts.proofs.Shapes.{unique}
 use Rattle.tape.specs.Cells.{cellWords, words, taped}
 use Rattle.tape.specs.Inner.Fill.{Good, Filled, lay}
-use Rattle.tape.specs.Read.{ended, wholeFrom, recordIn, readAll, TapeAfter, Promised}
+use Rattle.tape.specs.Read.{ended, wholeFrom, recordIn, readAll, Promised}
 use Rattle.tape.proofs.Words.{words-length}
 
 module _ (b : List ℕ) (limit room : ℕ) where
@@ -81,10 +81,6 @@ module _ (b : List ℕ) (limit room : ℕ) {a : Answer} (e : a ≡ readAt b 1 li
           fits = omega (arith, ap (λ (x : Answer). x .begun) e, f .counted);
         }
 
--- a refused read leaves the tape
-pub left-alone : {b tape : List ℕ} {n : ℕ} → ¬ (n ≡ 0) → TapeAfter b n tape tape
-left-alone h = record { refused = λ _. refl; done = λ e. absurd (h e) }
-
 pub behind-131 : {b : List ℕ} (t : Tree) → b ≡ 131 ∷ bytes t → Stands b 1 (bytes t)
 behind-131 t e = rw e (record { inside = omega arith; same = take-length (bytes t) })
 
@@ -96,10 +92,11 @@ laid-front t tape h =
     let z : 0 + length (words t 1 0 0) ≡ cellWords * size t = omega arith in
     sets-eq (words t 1 0 0) tape 0 (omega arith) ∙ ap (λ (k : ℕ). words t 1 0 0 ++ drop k tape) z
 
--- and a read that was Done has written its term's
-pub left-taped : {b old new : List ℕ} {n : ℕ} → n ≡ 0 → Good b (length old) → Filled b old new → TapeAfter b n old new
-left-taped {b} {old} {new} z g f =
+-- a call that meets the promise: Done, and it has written its term's words; or refused before the term or behind it
+pub writes : {b old new : List ℕ} {limit : ℕ} {r : Answer} → r ≡ readAll b limit (length old) → r .number ≡ 0 → Good b (length old) → Filled b old new → Promised b limit r old new
+writes {b} {old} {new} e z g f =
     record {
+      answered = e;
       refused = λ h. absurd (h z);
       done = λ _ t l e.
           let s = behind-131 t e in
@@ -107,9 +104,8 @@ left-taped {b} {old} {new} z g f =
           f .same t l s ∙ laid-front t old (rw u (g .fits));
     }
 
--- a call that meets the promise: refused before the term or behind it, or Done
 pub refuses : {b tape : List ℕ} {limit : ℕ} {r a : Answer} → r ≡ a → a ≡ readAll b limit (length tape) → ¬ (a .number ≡ 0) → Promised b limit r tape tape
-refuses e f h = record { answered = e ∙ f; left = left-alone (rw e h) }
+refuses e f h = record { answered = e ∙ f; refused = λ _. refl; done = λ z. absurd (h (rw e at z)) }
 
 -- no cause has the number of Done
 pub numbered : (c : Cause) → ¬ (numberOf c ≡ 0)

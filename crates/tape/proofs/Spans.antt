@@ -14,7 +14,7 @@ use Rattle.layouts.proofs.Stands.{left, right}
 use Rattle.layouts.proofs.Nodes.{nodes-length, is-in, lies}
 use Rattle.tape.specs.Cells.{cellWords, cellOf, words}
 use Rattle.tape.specs.Spans.{startAt, endAt, parentAt, sizeAt, Inside, Nested, OnePerTerm}
-use Rattle.tape.proofs.Blocks.{Block, block, cell-words, own, by-place, from}
+use Rattle.tape.proofs.Blocks.{Block, block, own, by-place, from}
 
 -- the term starts behind byte 131
 pub whole : (t : Tree) (tape : List ℕ) → Stands tape 0 (words t 1 0 0) → (startAt tape 0 ≡ 1) × (endAt tape 0 ≡ 1 + length (bytes t))

@@ -6,8 +6,8 @@ use mathlib.Core.Path.{_≡_, refl, ap, sym, _∙_}
 use mathlib.Core.List.{List, [], _∷_, _++_}
 use lib.ListN.{length, getD, set, length-set}
 use lib.Seq.{sets, set-comm, set-set, getD-set-same, getD-set-other}
-use Rattle.tape.specs.Cells.{cellWords, cell}
-use Rattle.tape.specs.Inner.Fill.{opened, closed, lay}
+use Rattle.tape.specs.Cells.{cellWords}
+use Rattle.tape.specs.Inner.Fill.{cell, opened, closed, lay}
 
 pub sets-append : (l : List ℕ) (i : ℕ) (xs ys : List ℕ) → sets l i (xs ++ ys) ≡ sets (sets l i xs) (i + length xs) ys
 sets-append l i [] ys = let e : i + 0 ≡ i = omega arith in ap (λ (k : ℕ). sets l k ys) (sym e)

@@ -7,7 +7,8 @@ use lib.ListN.{length}
 use Rattle.layouts.specs.Tree.{Tree, Forest, node, none, more, bytes, size}
 use Rattle.layouts.specs.Nodes.{Node, nodes, nodesAll}
 use Rattle.layouts.proofs.Nodes.{nodes-length}
-use Rattle.tape.specs.Cells.{cellWords, cell, cellOf, words, wordsAll}
+use Rattle.tape.specs.Cells.{cellWords, cellOf, words}
+use Rattle.tape.specs.Inner.Fill.{cell, wordsAll}
 
 -- the cells of two rows, one behind the other
 side-by-side : (xs ys : List Node) → flatMap cellOf (xs ++ ys) ≡ flatMap cellOf xs ++ flatMap cellOf ys

@@ -2,28 +2,21 @@
 use Prim.Native.Nat.{ℕ, _+_, _*_}
 use mathlib.Core.List.{List, [], _∷_, _++_, flatMap}
 use lib.ListN.{length, drop}
-use Rattle.layouts.specs.Tree.{Tree, Forest, tagOf, bytes, size}
-use Rattle.layouts.specs.Nodes.{Node, nodes, nodesAll}
+use Rattle.layouts.specs.Tree.{Tree, tagOf, bytes, size}
+use Rattle.layouts.specs.Nodes.{Node, nodes}
 
 -- "five to a cell": one name for the number
 abbrev pub cellWords : ℕ
 cellWords = 5
 
--- "tag, start, end (one past), parent's cell, cells in its subtree with itself"
-abbrev pub cell : (tag start end parent size : ℕ) → List ℕ
-cell tag start end parent size = tag ∷ start ∷ end ∷ parent ∷ size ∷ []
-
--- the cell of a term where it lies. Cells stand in the order of the terms, so that its parent's place in their row is its parent's cell
+-- "tag, start, end (one past), parent's cell, cells in its subtree with itself": the cell of a term where it lies. Cells stand in the order of
+-- the terms, so that its parent's place in their row is its parent's cell
 abbrev pub cellOf : Node → List ℕ
-cellOf n = cell (tagOf (n .tree)) (n .start) (n .start + length (bytes (n .tree))) (n .parent) (size (n .tree))
+cellOf n = tagOf (n .tree) ∷ n .start ∷ (n .start + length (bytes (n .tree))) ∷ n .parent ∷ size (n .tree) ∷ []
 
 -- the words of a tree that starts at p, whose own cell is c and its parent's `up`
 unfoldable pub words : Tree → (p up c : ℕ) → List ℕ
 words t p up c = flatMap cellOf (nodes t p up c)
-
--- and of trees side by side, the first of which starts at p and has the cell c
-unfoldable pub wordsAll : Forest → (p up c : ℕ) → List ℕ
-wordsAll ts p up c = flatMap cellOf (nodesAll ts p up c)
 
 -- the tape of a record: the term behind byte 131. "The root's parent is 0. Leftover words and cells past the last stay unchanged"
 unfoldable pub taped : Tree → List ℕ → List ℕ

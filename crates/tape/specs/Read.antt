@@ -34,11 +34,6 @@ recordIn b limit words = cond (eqb (length b) 0) (early number.Eof) (cond (eqb (
 unfoldable pub readAll : List ℕ → ℕ → ℕ → Answer
 readAll b limit words = started (starts limit (length b)) (recordIn b limit words)
 
--- "Only a Done read writes the tape": what stands on it after a read that answered `number`
-pub record TapeAfter (b : List ℕ) (number : ℕ) (old new : List ℕ) : Type 0 where
-  pub refused : ¬ (number ≡ 0) → new ≡ old
-  pub done : number ≡ 0 → (t : Tree) → Laid t → b ≡ 131 ∷ bytes t → new ≡ taped t old
-
 -- "accepted exactly when it is byte 131 and one whole term, as the layouts alone describe it, nested within the limit, with a tape cell
 -- lent for every term in it"
 pub record Accepted (b : List ℕ) (limit words : ℕ) : Type 0 where
@@ -48,7 +43,8 @@ pub record Accepted (b : List ℕ) (limit words : ℕ) : Type 0 where
   pub nested : depth tree ≤ limit
   pub room : cellWords * size tree ≤ words
 
--- a call of `read`: its answer, and the tape before and after
+-- a call of `read`: its answer, and the tape before and after. "Only a Done read writes the tape"
 pub record Promised (b : List ℕ) (limit : ℕ) (r : Answer) (old new : List ℕ) : Type 0 where
   pub answered : r ≡ readAll b limit (length old)
-  pub left : TapeAfter b (r .number) old new
+  pub refused : ¬ (r .number ≡ 0) → new ≡ old
+  pub done : r .number ≡ 0 → (t : Tree) → Laid t → b ≡ 131 ∷ bytes t → new ≡ taped t old

@@ -5,30 +5,23 @@ use mathlib.Core.Logic.{_⊎_, _↔_}
 use mathlib.Core.Option.{some}
 use mathlib.Core.List.{List}
 use lib.ListN.{length, getD, getElem?}
-use Rattle.layouts.specs.Tree.{Tree, Stands, bytes, size, tagOf}
-use Rattle.layouts.specs.Layout.{Laid}
+use Rattle.layouts.specs.Tree.{Tree, Stands}
 use Rattle.layouts.specs.Nodes.{Node, Lies, nodes}
 use Rattle.tape.specs.Cells.{cellWords, cellOf}
 
 module _ (tape : List ℕ) where
-  -- word k of cell i
-  abbrev word : ℕ → ℕ → ℕ
-  word k i = getD tape (cellWords * i + k) 0
-
-  abbrev pub tagAt : ℕ → ℕ
-  tagAt i = word 0 i
-
+  -- the words of cell i behind its tag
   abbrev pub startAt : ℕ → ℕ
-  startAt i = word 1 i
+  startAt i = getD tape (cellWords * i + 1) 0
 
   abbrev pub endAt : ℕ → ℕ
-  endAt i = word 2 i
+  endAt i = getD tape (cellWords * i + 2) 0
 
   abbrev pub parentAt : ℕ → ℕ
-  parentAt i = word 3 i
+  parentAt i = getD tape (cellWords * i + 3) 0
 
   abbrev pub sizeAt : ℕ → ℕ
-  sizeAt i = word 4 i
+  sizeAt i = getD tape (cellWords * i + 4) 0
 
   -- cell j's span lies inside cell i's
   pub record Inside (i j : ℕ) : Type 0 where

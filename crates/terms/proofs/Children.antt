@@ -1,13 +1,12 @@
 -- The children as the one loop reads them are the definition's. Assumes nothing.
 use mathlib.Core.Path.{_≡_, refl, ap, sym, _∙_}
-use mathlib.Core.List.{List, [], _∷_}
-use Prim.Native.Nat.{ℕ, zero, suc, _+_, _-_, _*_, _%_, _≤_, _<_, max}
+use mathlib.Core.List.{List}
+use Prim.Native.Nat.{ℕ, zero, suc, _+_, _-_, _*_, _%_, _<_, max}
 use native.Mathlib.Omega.{arith}
 use native.Mathlib.Numerals.{add-one}
 use lib.ListN.{length}
 use borrow.Author.Tests.{eq-eqb, ne-eqb}
 use Rattle.numbers.specs.Caps as cap
-use Rattle.terms.specs.declared.Family.{Family}
 use Rattle.terms.specs.declared.Family.the-variants as family
 use Rattle.reading.specs.declared.Kind.{Kind}
 use Rattle.reading.specs.declared.Kind.the-variants.{Tuple, List as KList, Tail, Key, Value, Free}
@@ -16,7 +15,7 @@ use Rattle.fields.specs.Field.{fieldAt}
 use Rattle.fields.specs.declared.Field.the-variants as field
 use Rattle.rows.specs.Row.{countAt}
 use Rattle.rows.specs.declared.Counted.the-variants as count
-use Rattle.reading.specs.Reading.{State, Result, done, no, andThen, entered, moved}
+use Rattle.reading.specs.Reading.{State, Result, done, andThen, entered, moved}
 use Rattle.reading.specs.Terms.{elems, pair, pairs, smallTuple, largeTuple, list, map}
 use Rattle.terms.specs.Inner.Kids.{segmentOf, entering, kidsOf}
 use Rattle.reading.specs.Terms.{term}

@@ -1,15 +1,14 @@
 -- How an answer that lies in lent numbers says what the definition says: taking it apart, putting it together, and the stores that make
 -- it. Assumes nothing.
-use mathlib.Core.Path.{_≡_, refl, ap, sym, _∙_}
+use mathlib.Core.Path.{_≡_, refl, ap, _∙_}
 use mathlib.Core.List.{List, [], _∷_}
-use Prim.Native.Nat.{ℕ, zero, suc, _+_, _-_, _*_, _/_, _%_, _≤_, _<_, max}
+use Prim.Native.Nat.{ℕ, zero, suc, _+_, _-_, _*_, _/_, _%_, _≤_, _<_}
 use native.Mathlib.Omega.{arith}
 use native.Mathlib.Numerals.{add-one}
 use native.Mathlib.Nat.{le-refl, max-eq-left, max-eq-right, le-of-lt}
 use lib.ListN.{length, getD, set, length-set}
 use lib.Seq.{getD-set-same, getD-set-other}
 use Rattle.rows.specs.Layout.{rowAt}
-use Rattle.rows.specs.declared.Row.{Row}
 use Rattle.rows.specs.declared.Row.the-variants.{To}
 use Rattle.rows.proofs.Ends.{row-within}
 use Rattle.reading.specs.Answer.{kindNumber}
@@ -18,8 +17,8 @@ use Rattle.reading.specs.declared.Kind.the-variants.{Tuple, List as KList, Tail
 use Rattle.reading.specs.declared.Segment.{Segment}
 use Rattle.terms.specs.Inner.Kids.{entering, kidsOf}
 use Rattle.reading.specs.Reading.{State, Result, done, no, andThen, entered, reach, begin, fields}
-use Rattle.reading.proofs.Families.{fields-to, fields-no}
-use Rattle.terms.specs.Inner.Lent.{kindOf, unpacked, pathOf, place, Ready, GoesOn, Stops, shows-by, Shows, Settled, to, refused as refused-so, Kept}
+use Rattle.reading.proofs.Families.{fields-to}
+use Rattle.terms.specs.Inner.Lent.{kindOf, unpacked, pathOf, place, GoesOn, Stops, shows-by, Shows, Kept}
 
 -- packing
 
@@ -217,11 +216,9 @@ module _ (read : State → Result) (seg : ℕ → ℕ → Segment) where
 pub noted : {seen fault : List ℕ} {room : ℕ} (o : Result) {g h : Segment} → g ≡ h → Stops seen fault room (entering g o) → Stops seen fault room (entering h o)
 noted o e s = rw e at s
 
--- a row's answer in the lent numbers is the definition's
-pub settled-told : {seen fault : List ℕ} {r room : ℕ} (b : List ℕ) (tag at : ℕ) {w : Row} → Settled w r fault → w ≡ rowAt b tag at → 1 ≤ at → at ≤ length b → getD seen 1 0 ≤ at → length seen ≡ 3 →
+-- a row that ends
+pub row-ends : {seen fault : List ℕ} {r room : ℕ} (b : List ℕ) (tag at : ℕ) → rowAt b tag at ≡ To r → 1 ≤ at → at ≤ length b → length fault ≡ 67 → getD seen 1 0 ≤ at → length seen ≡ 3 →
     Shows r seen fault (length b) room (fields (rowAt b tag at) (place at seen))
-settled-told {seen} {fault} {r} b tag at (to h l) e p i c t =
-    let q : rowAt b tag at ≡ To r = sym e ∙ h in
+row-ends {seen} {fault} {r} b tag at q p i l c t =
     let w = row-within b tag at q i in
     went (goes-by (fields-to _ q) (ends r seen fault (length b) (omega arith) (w .1) (omega arith) t l))
-settled-told b tag at (refused-so h t) e p i c k = by (fields-no _ (sym e ∙ h)) (t _ _ _ _)

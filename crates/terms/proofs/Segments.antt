@@ -1,20 +1,17 @@
 -- The path in the lent numbers, and in an answer. Assumes nothing.
-use mathlib.Core.Path.{_≡_, refl, ap, sym, _∙_}
+use mathlib.Core.Path.{_≡_, refl, ap}
 use mathlib.Core.List.{List, [], _∷_, _++_}
-use Prim.Native.Nat.{ℕ, zero, suc, _+_, _-_, _≤_, _<_, zero-le}
+use Prim.Native.Nat.{ℕ, zero, suc, _+_, _-_, _<_}
 use native.Mathlib.Omega.{arith}
 use native.Mathlib.Nat.{le-of-suc-le-suc, not-suc-le-zero}
 use lib.ListN.{length, getD, set, take, replicate}
 use Rattle.reading.specs.declared.Segment.{Segment}
 use native.Mathlib.Numerals.{add-one}
 use Rattle.reading.specs.declared.Kind.the-variants.{Free}
-use borrow.Author.Tests.{lt-ltb, le-ltb, ne-eqb}
-use Rattle.reading.specs.Reading.{State, Result, no}
-use Rattle.reading.specs.Terms.{term}
+use Rattle.reading.specs.Reading.{Result}
 use Rattle.reading.specs.declared.Answer.{Answer}
-use Rattle.reading.specs.Answer.{padded, refusal, early, answer, readAt}
+use Rattle.reading.specs.Answer.{padded, answer}
 use Rattle.terms.specs.Inner.Lent.{unpacked, pathOf, kindOf, Stops}
-use Rattle.reading.proofs.Families.{term-eof}
 
 pub path-length : (n : ℕ) (l : List ℕ) → length (pathOf n l) ≡ n
 unfolding pathOf

@@ -9,16 +9,12 @@
 // Copyright (C) 2025-2026 Michael S. Klishin and Contributors, Apache-2.0: see NOTICE.
 mod path;
 mod readers;
-mod short;
 mod steps;
 
 use reading::Answer;
 use reading::Cause;
 use reading::Start;
 ghost use mathlib.Core.Path.{_≡_};
-ghost use Prim.Native.Nat.{_≤_};
-ghost use lib.ListN.{length};
-ghost use Rattle.numbers.specs.Caps as cap;
 ghost use Rattle.reading.specs.Answer.{readAt};
 
 // What children are of: the loop over them tells by it which segment a child has.
@@ -27,6 +23,14 @@ enum Family {
     List,
     Map,
     Function,
+}
+
+// What a row requires of a child: an atom, an integer from 0 to 255, one of 0 or more, a pid.
+enum Needed {
+    Atom,
+    Arity,
+    Natural,
+    Pid,
 }
 
 // Reads the term at a place of b, any place, nested at most `limit` deep. Refused before reading: a limit of 0 or over 64 (Limit), more

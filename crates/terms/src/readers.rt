@@ -4,24 +4,23 @@
 // Changed from decode_borrowed and its readers in decoder.rs (michaelklishin/edp-rs, fc07dcb95d),
 // Copyright (C) 2025-2026 Michael S. Klishin and Contributors, Apache-2.0: see NOTICE.
 use crate::Family;
+use crate::Needed;
 use crate::path::note;
 use crate::path::refuse;
 use crate::path::segment_of;
-use crate::short::short_end;
 use crate::steps::begun;
 use crate::steps::deepen;
-use crate::steps::is_atom;
-use crate::steps::is_natural;
+use crate::steps::is_needed;
 use crate::steps::keep;
-use crate::steps::reached;
 use crate::steps::row;
+use crate::steps::short;
 use crate::steps::skip;
 use fields::Field;
 use rows::Counted;
 ghost use Prim.Native.Nat.{_+_, _<_, _≤_};
 ghost use lib.ListN.{length};
 ghost use Rattle.reading.specs.Terms as def;
-ghost use Rattle.terms.specs.Inner.Kids.{most, segmentOf, kidsOf};
+ghost use Rattle.terms.specs.Inner.Kids.{most, segmentOf, fits, named, kidsOf};
 ghost use Rattle.terms.specs.Inner.Lent.{place, Shows, Ready, Enters, Reads};
 
 // A term: the readers below call each other through it.
@@ -37,28 +36,42 @@ pub(crate) fn term(
     ensures { λ r. ⌜ Shows r (now (seen .exit)) (now (fault .exit)) (length (now (b .entry))) rem (def.term (now (b .entry)) limit rem (place at (now (seen .entry)))) ⌝ }
 {
     if b.len() <= at {
-        reached(at, seen);
+        seen[0] = at;
         return refuse(numbers::EOF, 0, fault);
     }
     if rem == 0 {
-        reached(at, seen);
+        seen[0] = at;
         return refuse(numbers::DEEP, 0, fault);
     }
     let r = rem - 1;
     begun(at, limit - r, seen);
-    let next = at + 1;
-    let tag = b[at];
+    body(b, limit, r, b[at], at + 1, seen, fault)
+}
+
+// What stands behind a tag.
+fn body(
+    b: &[u8],
+    limit: usize,
+    rem: usize,
+    tag: u8,
+    at: usize,
+    seen: &mut [usize; 3],
+    fault: &mut [u64; 67],
+) -> usize
+    requires { ⌜ Enters (now b) limit rem at (now seen) (now fault) ⌝ }
+    ensures { λ r. ⌜ Reads (λ read b. def.body read b tag) (now (b .entry)) limit rem at (now (seen .entry)) r (now (seen .exit)) (now (fault .exit)) ⌝ }
+{
     match tag {
-        104 => small_tuple(b, limit, r, next, seen, fault),
-        105 => large_tuple(b, limit, r, next, seen, fault),
-        108 => list(b, limit, r, next, seen, fault),
-        116 => map(b, limit, r, next, seen, fault),
-        88 => pid(b, limit, r, next, seen, fault),
-        120 => pid(b, limit, r, next, seen, fault),
-        90 => reference(b, limit, r, next, seen, fault),
-        113 => export(b, limit, r, next, seen, fault),
-        112 => function(b, limit, r, next, seen, fault),
-        _ => row(b, tag, next, fault),
+        104 => small_tuple(b, limit, rem, at, seen, fault),
+        105 => large_tuple(b, limit, rem, at, seen, fault),
+        108 => list(b, limit, rem, at, seen, fault),
+        116 => map(b, limit, rem, at, seen, fault),
+        88 => named(b, limit, rem, 12, at, seen, fault),
+        120 => named(b, limit, rem, 12, at, seen, fault),
+        90 => reference(b, limit, rem, at, seen, fault),
+        113 => export(b, limit, rem, at, seen, fault),
+        112 => function(b, limit, rem, at, seen, fault),
+        _ => row(b, tag, at, fault),
     }
 }
 
@@ -174,68 +187,47 @@ fn map(
     }
 }
 
-// A required child that is an atom: it is read whole, then judged.
-fn atom(
+// A child of a kind that is required: it is read whole, then judged.
+fn required(
     b: &[u8],
     limit: usize,
     rem: usize,
+    needed: Needed,
     at: usize,
     seen: &mut [usize; 3],
     fault: &mut [u64; 67],
 ) -> usize
     requires { ⌜ Enters (now b) limit rem at (now seen) (now fault) ⌝ }
-    ensures { λ r. ⌜ Reads (λ read b. def.required read (def.isAtom b)) (now (b .entry)) limit rem at (now (seen .entry)) r (now (seen .exit)) (now (fault .exit)) ⌝ }
+    ensures { λ r. ⌜ Reads (λ read b. def.required read (fits needed b)) (now (b .entry)) limit rem at (now (seen .entry)) r (now (seen .exit)) (now (fault .exit)) ⌝ }
 {
     let e = term(b, limit, rem, at, seen, fault);
     if e == 0 {
         return 0;
     }
-    if is_atom(b, at) {
+    if is_needed(b, needed, at) {
         return e;
     }
     refuse(numbers::TAG, 0, fault)
 }
 
-// A required child that is an integer from 0 to `most`.
-fn natural(
+// An atom, and n bytes: all of a pid and of a port, and the end of a reference.
+fn named(
     b: &[u8],
     limit: usize,
     rem: usize,
-    most: u64,
+    n: usize,
     at: usize,
     seen: &mut [usize; 3],
     fault: &mut [u64; 67],
 ) -> usize
     requires { ⌜ Enters (now b) limit rem at (now seen) (now fault) ⌝ }
-    ensures { λ r. ⌜ Reads (λ read b. def.required read (def.isNatural most b)) (now (b .entry)) limit rem at (now (seen .entry)) r (now (seen .exit)) (now (fault .exit)) ⌝ }
+    ensures { λ r. ⌜ Reads (λ read b. named read b n) (now (b .entry)) limit rem at (now (seen .entry)) r (now (seen .exit)) (now (fault .exit)) ⌝ }
 {
-    let e = term(b, limit, rem, at, seen, fault);
+    let e = required(b, limit, rem, Needed::Atom, at, seen, fault);
     if e == 0 {
         return 0;
     }
-    if is_natural(b, most, at) {
-        return e;
-    }
-    refuse(numbers::TAG, 0, fault)
-}
-
-// A pid or a port: its atom, and twelve bytes.
-fn pid(
-    b: &[u8],
-    limit: usize,
-    rem: usize,
-    at: usize,
-    seen: &mut [usize; 3],
-    fault: &mut [u64; 67],
-) -> usize
-    requires { ⌜ Enters (now b) limit rem at (now seen) (now fault) ⌝ }
-    ensures { λ r. ⌜ Reads def.pid (now (b .entry)) limit rem at (now (seen .entry)) r (now (seen .exit)) (now (fault .exit)) ⌝ }
-{
-    let e = atom(b, limit, rem, at, seen, fault);
-    if e == 0 {
-        return 0;
-    }
-    skip(b, 12, e, fault)
+    skip(b, n, e, fault)
 }
 
 // A reference: a count, its atom, the creation and so many ids.
@@ -252,13 +244,7 @@ fn reference(
 {
     let f = fields::be_u16(b, at);
     match f {
-        Field::Is(n) => {
-            let e = atom(b, limit, rem, at + 2, seen, fault);
-            if e == 0 {
-                return 0;
-            }
-            skip(b, 4 + 4 * (n as usize), e, fault)
-        }
+        Field::Is(n) => named(b, limit, rem, 4 + 4 * (n as usize), at + 2, seen, fault),
         Field::Eof => refuse(numbers::EOF, 0, fault),
     }
 }
@@ -275,15 +261,15 @@ fn export(
     requires { ⌜ Enters (now b) limit rem at (now seen) (now fault) ⌝ }
     ensures { λ r. ⌜ Reads def.export (now (b .entry)) limit rem at (now (seen .entry)) r (now (seen .exit)) (now (fault .exit)) ⌝ }
 {
-    let module = atom(b, limit, rem, at, seen, fault);
+    let module = required(b, limit, rem, Needed::Atom, at, seen, fault);
     if module == 0 {
         return 0;
     }
-    let name = atom(b, limit, rem, module, seen, fault);
+    let name = required(b, limit, rem, Needed::Atom, module, seen, fault);
     if name == 0 {
         return 0;
     }
-    natural(b, limit, rem, 255, name, seen, fault)
+    required(b, limit, rem, Needed::Arity, name, seen, fault)
 }
 
 // A function with its free terms.
@@ -318,26 +304,23 @@ fn captured(
     requires { ⌜ Enters (now b) limit rem at (now seen) (now fault) × (n < 4294967296) ⌝ }
     ensures { λ r. ⌜ Reads (λ read b. def.captured read b n) (now (b .entry)) limit rem at (now (seen .entry)) r (now (seen .exit)) (now (fault .exit)) ⌝ }
 {
-    let module = atom(b, limit, rem, at, seen, fault);
+    let module = required(b, limit, rem, Needed::Atom, at, seen, fault);
     if module == 0 {
         return 0;
     }
-    let index = natural(b, limit, rem, 2147483647, module, seen, fault);
+    let index = required(b, limit, rem, Needed::Natural, module, seen, fault);
     if index == 0 {
         return 0;
     }
-    let uniq = natural(b, limit, rem, 2147483647, index, seen, fault);
+    let uniq = required(b, limit, rem, Needed::Natural, index, seen, fault);
     if uniq == 0 {
         return 0;
     }
-    let e = term(b, limit, rem, uniq, seen, fault);
-    if e == 0 {
+    let process = required(b, limit, rem, Needed::Pid, uniq, seen, fault);
+    if process == 0 {
         return 0;
     }
-    if b[uniq] == 88 {
-        return kids(b, limit, rem, Family::Function, n, e, seen, fault);
-    }
-    refuse(numbers::TAG, 0, fault)
+    kids(b, limit, rem, Family::Function, n, process, seen, fault)
 }
 
 // n children. Most are short leaves, which are read here, with what reading leaves behind in locals.
@@ -361,7 +344,7 @@ fn kids(
     let mut deep = deepen(b, limit, rem, n, from, seen[2]);
     let mut i = 0;
     while i < n {
-        let end = short_end(b, rem, at);
+        let end = short(b, rem, at);
         if end != 0 {
             last = at;
             count += 1;

@@ -1,27 +1,19 @@
-// What the readers of the families have in common: a term reached and begun, rows without children, bytes passed, and the tests of a child
-// that a row requires. None of these calls a reader.
+// What the readers of the families have in common: a term begun, rows without children, the short way to some of them,
+// bytes passed, and the test of a child that a row requires. None of these calls a reader.
+use crate::Needed;
 use crate::path::refuse;
-use fields::Field;
 use rows::Row;
 ghost use mathlib.Core.Path.{_≡_};
 ghost use mathlib.Core.List.{List};
-ghost use Prim.Native.Nat.{ℕ, _+_, _-_, _<_, _≤_, max};
+ghost use Prim.Native.Nat.{ℕ, _+_, _-_, _<_, _≤_};
 ghost use lib.ListN.{length, getD};
 ghost use Rattle.numbers.specs.Caps as cap;
 ghost use Rattle.rows.specs.Layout as layout;
 ghost use Rattle.reading.specs.declared.Segment.{Segment};
-ghost use Rattle.reading.specs.Reading.{reach, begin, fields, pass};
+ghost use Rattle.reading.specs.Reading.{begin, fields, pass};
 ghost use Rattle.reading.specs.Terms as def;
-ghost use Rattle.terms.specs.Inner.Kids.{kidsOf};
-ghost use Rattle.terms.specs.Inner.Lent.{place, Shows, Settled, Kept};
-
-// At the start of a term.
-pub(crate) fn reached(at: usize, seen: &mut [usize; 3])
-    requires { ⌜ length (now seen) ≡ 3 ⌝ }
-    ensures { λ r. ⌜ (place at (now (seen .exit)) ≡ reach (place at (now (seen .entry)))) × (length (now (seen .exit)) ≡ 3) ⌝ }
-{
-    seen[0] = at;
-}
+ghost use Rattle.terms.specs.Inner.Kids.{fits, kidsOf};
+ghost use Rattle.terms.specs.Inner.Lent.{place, Shows, Short, Kept};
 
 // A term is begun at nesting `level`.
 pub(crate) fn begun(at: usize, level: usize, seen: &mut [usize; 3])
@@ -46,23 +38,27 @@ pub(crate) fn keep(last: usize, count: usize, deep: usize, seen: &mut [usize; 3]
     seen[2] = deep;
 }
 
-// A row's answer: its end, or its refusal.
-fn settled(row: Row, fault: &mut [u64; 67]) -> usize
-    requires { ⌜ length (now fault) ≡ 67 ⌝ }
-    ensures { λ r. ⌜ Settled row r (now (fault .exit)) ⌝ }
-{
-    match row {
-        Row::To(e) => e,
-        Row::No(n, x) => refuse(n, x, fault),
-    }
-}
-
 // A term without children.
 pub(crate) fn row(b: &[u8], tag: u8, at: usize, fault: &mut [u64; 67]) -> usize
     requires { ⌜ (at ≤ length (now b)) × ((length (now fault) ≡ 67) × (1 ≤ at)) ⌝ }
     ensures { λ r. ⌜ ((seen : List ℕ) (room : ℕ) → getD seen 1 0 ≤ at → length seen ≡ 3 → Shows r seen (now (fault .exit)) (length (now (b .entry))) room (fields (layout.rowAt (now (b .entry)) tag at) (place at seen))) ⌝ }
 {
-    settled(rows::row_at(b, tag, at), fault)
+    let found = rows::row_at(b, tag, at);
+    match found {
+        Row::To(e) => e,
+        Row::No(n, x) => refuse(n, x, fault),
+    }
+}
+
+// The end of a child that `shortcut` finds, where there is nesting left for it; 0 says nothing.
+pub(crate) fn short(b: &[u8], rem: usize, at: usize) -> usize
+    requires { ⌜ length (now b) ≤ cap.input ⌝ }
+    ensures { λ r. ⌜ (¬ (r ≡ 0) → Short (now (b .entry)) rem at r) ⌝ }
+{
+    if rem == 0 {
+        return 0;
+    }
+    shortcut::end_at(b, at)
 }
 
 // n bytes.
@@ -76,40 +72,16 @@ pub(crate) fn skip(b: &[u8], n: usize, at: usize, fault: &mut [u64; 67]) -> usiz
     refuse(numbers::EOF, 0, fault)
 }
 
-pub(crate) fn is_atom(b: &[u8], at: usize) -> bool
+// Whether a child that was read whole is what is required.
+pub(crate) fn is_needed(b: &[u8], needed: Needed, at: usize) -> bool
     requires { ⌜ at < length (now b) ⌝ }
-    ensures { λ r. ⌜ r ≡ def.isAtom (now (b .entry)) at ⌝ }
+    ensures { λ r. ⌜ r ≡ fits needed (now (b .entry)) at ⌝ }
 {
-    let tag = b[at];
-    match tag {
-        100 => true,
-        118 => true,
-        119 => true,
-        _ => false,
-    }
-}
-
-pub(crate) fn is_natural(b: &[u8], most: u64, at: usize) -> bool
-    requires { ⌜ at < length (now b) ⌝ }
-    ensures { λ r. ⌜ r ≡ def.isNatural most (now (b .entry)) at ⌝ }
-{
-    let tag = b[at];
-    if tag == 97 {
-        return at_most(fields::be_u8(b, at + 1), most);
-    }
-    if tag == 98 {
-        return at_most(fields::be_u32(b, at + 1), most);
-    }
-    false
-}
-
-// A number that is there and at most `most`.
-fn at_most(f: Field, most: u64) -> bool
-    ensures { λ r. ⌜ r ≡ def.atMost f most ⌝ }
-{
-    match f {
-        Field::Is(n) => n <= most,
-        Field::Eof => false,
+    match needed {
+        Needed::Atom => reading::is_atom(b, at),
+        Needed::Arity => reading::is_natural(b, 255, at),
+        Needed::Natural => reading::is_natural(b, 2147483647, at),
+        Needed::Pid => b[at] == 88,
     }
 }
 
@@ -135,11 +107,9 @@ pub(crate) fn deepen(
     if b.len() <= from {
         return deep;
     }
-    larger(deep, limit + 1 - rem)
-}
-
-fn larger(x: usize, y: usize) -> usize
-    ensures { λ r. ⌜ r ≡ max x y ⌝ }
-{
-    if x < y { y } else { x }
+    let level = limit + 1 - rem;
+    if deep < level {
+        return level;
+    }
+    deep
 }

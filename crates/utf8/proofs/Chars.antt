@@ -1,5 +1,5 @@
 -- One character at the front of a list of bytes: what its bytes are by their number, and that such bytes are one. Assumes nothing.
-use Prim.Native.Nat.{ℕ, zero, suc, _+_, _*_, _-_, _/_, _%_, _<_, _≤_}
+use Prim.Native.Nat.{ℕ, _+_, _-_, _/_, _%_, _<_, _≤_}
 use native.Mathlib.Nat.{add-zero, div-div-eq-div-mul}
 use native.Mathlib.Omega.{arith}
 use mathlib.Core.Path.{_≡_, refl, ap, sym, _∙_}
@@ -8,12 +8,11 @@ use mathlib.Core.List.{List, [], _∷_, _++_}
 use mathlib.Core.Bool.{Bool, true, false}
 use borrow.Author.Tests.{lt-ltb, le-ltb, ltb-true, ltb-false}
 use lib.Dec.{ltb}
-use lib.ListN.{length, getD, drop, length-drop, length-append}
+use lib.ListN.{length, getD, drop, length-drop}
 use lib.Seq.{getD-drop}
 use Rattle.utf8.specs.Unicode.{scalar, encode}
 use Rattle.utf8.specs.Inner.Find.{decode}
-use Rattle.utf8.specs.Good.{Begins}
-use Rattle.utf8.specs.Inner.Check.{Char, none, one, Six, bits, other}
+use Rattle.utf8.specs.Inner.Check.{Begins, Char, none, one, Six, bits, other}
 
 -- the four rows of Unicode's Table 3-6
 pub encode-1 : (c : ℕ) → c < 0x80 → encode c ≡ c ∷ []

@@ -9,8 +9,7 @@ use mathlib.Core.Bool.{Bool, true, false, _&&_}
 use borrow.Author.Tests.{eq-eqb, eqb-true, leb-true, leb-false, ltb-true, ltb-false}
 use lib.Dec.{eqb, ltb, leb}
 use lib.Bits.{bitAnd, and-high, and-block, and-zero-l}
-use lib.ListN.{length, getD, take, drop, length-append, length-take, length-drop, take-append-drop}
-use lib.Pow.{pow-add}
+use lib.ListN.{length, getD, take, drop, length-drop, take-append-drop}
 use lib.Seq.{length-take-le, take-add, drop-drop, drop-cons, take-take, getD-take, getD-drop}
 use Rattle.utf8.specs.Inner.Check.{Plain, Run, le, leAt}
 

@@ -1,23 +1,23 @@
 -- What callers of `good` and `ascii` use of their promises. Assumes nothing.
 use Prim.Native.Nat.{ℕ, _+_, _≤_}
 use native.Mathlib.Omega.{arith}
-use mathlib.Core.Path.{_≡_, ap, sym, subst, _∙_}
+use mathlib.Core.Path.{_≡_}
 use mathlib.Core.List.{List}
-use lib.ListN.{length, getD, take, drop, length-drop}
+use lib.ListN.{length, take, drop, length-drop}
 use lib.Seq.{length-take-le, getD-take, getD-drop}
 use Rattle.utf8.specs.Inner.Find.{goodBytes}
 use Rattle.utf8.specs.Inner.Check.{Plain}
-use Rattle.utf8.proofs.Runs.{none-yet, plain-to, at-end}
+use Rattle.utf8.proofs.Runs.{none-yet, plain-to, at-end, good-to}
 use Rattle.utf8.proofs.Meaning.{good-bytes}
 use Rattle.utf8.proofs.Unique.{good-unique}
 
 pub good-within : (s : List ℕ) → goodBytes s ≤ length s
-good-within s = good-bytes s .spells .within
+good-within s = good-bytes s .within
 
 -- a text that is all ASCII is good
 pub ascii-good : {b : List ℕ} {at n : ℕ} → Plain b at (at + n) → goodBytes (take n (drop at b)) ≡ n
 ascii-good {b} {at} {n} p =
-    good-unique (good-bytes text) (record { spells = plain-to (none-yet text) plain; stuck = at-end text n (omega (arith, size)) })
+    good-unique (good-bytes text) (good-to (plain-to (none-yet text) plain) (at-end text n (omega (arith, size))))
   where
     text : List ℕ
     text = take n (drop at b)

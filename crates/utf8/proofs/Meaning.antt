@@ -10,11 +10,11 @@ use lib.ListN.{length, getD, drop, length-drop, length-append}
 use lib.Seq.{drop-drop}
 use Rattle.utf8.specs.Unicode.{scalar, encode}
 use Rattle.utf8.specs.Inner.Find.{decode, starts, charBytes, goodFrom, goodBytes}
-use Rattle.utf8.specs.Good.{spelled, Scalars, none, more, Begins, Spells, Good}
+use Rattle.utf8.specs.Good.{spelled, none, more, Good}
 use Rattle.utf8.specs.Inner.Check as char
-use Rattle.utf8.specs.Inner.Check.{Char}
+use Rattle.utf8.specs.Inner.Check.{Begins, Char}
 use Rattle.utf8.proofs.Chars.{decoded, not-end}
-use Rattle.utf8.proofs.Runs.{none-yet, at-end}
+use Rattle.utf8.proofs.Runs.{none-yet, at-end, good-to, spells, no-further}
 
 -- `starts` tells whether a list stands at the front of another
 starts-true : (p s : List ℕ) → starts p s ≡ true → s ≡ p ++ drop (length p) s
@@ -65,29 +65,28 @@ char-bytes s = go (scalar c) refl (starts (encode c) s) refl
 one-first : {s : List ℕ} {n m : ℕ} → 0 < n → n ≤ length s → (c : ℕ) → scalar c ≡ true → s ≡ encode c ++ drop n s → Good (drop n s) m → Good s (n + m)
 unfolding spelled
 one-first {s} {n} {m} p l c h e g =
-    record {
-      spells =
-          record {
-            chars = c ∷ g .spells .chars;
-            scalars = more h (g .spells .scalars);
-            within = let k = simp length-drop at (g .spells .within) in omega arith;
-            front =
-                e ∙ ap (λ (t : List ℕ). encode c ++ t) (g .spells .front ∙ ap (λ (t : List ℕ). spelled (g .spells .chars) ++ t) (drop-drop m n s))
-                ∙ sym (append-assoc (encode c) (spelled (g .spells .chars)) (drop (n + m) s));
-          };
-      stuck = λ b. g .stuck (subst (λ (t : List ℕ). Begins t) (sym (drop-drop m n s)) b);
-    }
+    let r = spells g in
+    good-to
+    (record {
+      chars = c ∷ r .chars;
+      scalars = more h (r .scalars);
+      within = let k = simp length-drop at (r .within) in omega arith;
+      front =
+          e ∙ ap (λ (t : List ℕ). encode c ++ t) (r .front ∙ ap (λ (t : List ℕ). spelled (r .chars) ++ t) (drop-drop m n s))
+          ∙ sym (append-assoc (encode c) (spelled (r .chars)) (drop (n + m) s));
+    })
+    (λ b. no-further g (subst (λ (t : List ℕ). Begins t) (sym (drop-drop m n s)) b))
 
 next : (most : ℕ) (s : List ℕ) → ((t : List ℕ) → length t ≤ most → Good t (goodFrom most t)) → length s ≤ suc most → (n : ℕ) → Char s n → charBytes s ≡ n → Good s (goodFrom (suc most) s)
 unfolding goodFrom
 next most s later h n (char.none z stuck) e =
-    rw (eq-eqb (charBytes s) 0 (e ∙ z)) (record { spells = none-yet s; stuck = stuck })
+    rw (eq-eqb (charBytes s) 0 (e ∙ z)) (good-to (none-yet s) stuck)
 next most s later h n (char.one p l c k f) e =
     rw (e, ne-eqb n 0 (λ z. omega arith)) (one-first p l c k f (later (drop n s) (simp length-drop (omega arith))))
 
 good-from : (most : ℕ) (s : List ℕ) → length s ≤ most → Good s (goodFrom most s)
 unfolding goodFrom
-good-from zero s h = record { spells = none-yet s; stuck = at-end s 0 h }
+good-from zero s h = good-to (none-yet s) (at-end s 0 h)
 good-from (suc most) s h = next most s (good-from most) h (charBytes s) (char-bytes s) refl
 
 pub good-bytes : (s : List ℕ) → Good s (goodBytes s)

@@ -2,17 +2,16 @@
 -- Assumes nothing.
 use Prim.Native.Nat.{ℕ, zero, suc, _+_, _-_, _<_, _≤_}
 use native.Mathlib.Nat.{add-zero}
-use native.Mathlib.Numerals.{add-one}
 use native.Mathlib.Omega.{arith}
 use mathlib.Core.Path.{_≡_, refl, ap, sym, _∙_, subst}
 use mathlib.Core.Bool.{true}
 use mathlib.Core.List.{List, [], _∷_, _++_, append-assoc, append-nil}
-use lib.ListN.{length, getD, drop, length-drop, drop-of-length-le}
-use lib.Seq.{drop-drop}
+use lib.ListN.{length, getD, take, drop, length-append, length-drop, take-append-drop}
+use lib.Seq.{drop-drop, take-at}
 use Rattle.utf8.specs.Unicode.{scalar, encode}
-use Rattle.utf8.specs.Good.{spelled, Scalars, none, more, Begins, Spells}
+use Rattle.utf8.specs.Good.{spelled, Scalars, none, more, Good}
 use Rattle.utf8.specs.Inner.Check as char
-use Rattle.utf8.specs.Inner.Check.{Plain, Char}
+use Rattle.utf8.specs.Inner.Check.{Spells, Begins, Plain, Char}
 use Rattle.utf8.proofs.Chars.{is-one, not-end}
 
 spelled-snoc : (cs : List ℕ) (c : ℕ) → spelled (cs ++ (c ∷ [])) ≡ spelled cs ++ encode c
@@ -73,3 +72,27 @@ ascii-more {s} {i} r l h p = plain-to (one-more r 1 (is-one s i (omega arith) h)
 -- no character begins the empty list
 pub at-end : (s : List ℕ) (i : ℕ) → length s ≤ i → Begins (drop i s) → ⊥
 at-end s i h b = omega (arith, not-end s i b)
+
+-- how far good characters go: where none begins behind them
+pub good-to : {s : List ℕ} {k : ℕ} → Spells s k → (Begins (drop k s) → ⊥) → Good s k
+good-to {s} {k} p h =
+    let w = p .within in
+    let e = simp (length-append, length-drop) at (ap length (p .front)) in
+    let l : length (spelled (p .chars)) ≡ k = omega arith in
+    record {
+      within = p .within;
+      text = record { chars = p .chars; scalars = p .scalars; is = ap (take k) (p .front) ∙ take-at (spelled (p .chars)) (drop k s) k l };
+      stuck = λ c g r e. h (record { char = c; good = g; rest = r; is = e });
+    }
+
+pub spells : {s : List ℕ} {k : ℕ} → Good s k → Spells s k
+spells {s} {k} g =
+    record {
+      chars = g .text .chars;
+      scalars = g .text .scalars;
+      within = g .within;
+      front = sym (take-append-drop k s) ∙ ap (λ (l : List ℕ). l ++ drop k s) (g .text .is);
+    }
+
+pub no-further : {s : List ℕ} {k : ℕ} → Good s k → Begins (drop k s) → ⊥
+no-further g b = g .stuck (b .char) (b .good) (b .rest) (b .is)

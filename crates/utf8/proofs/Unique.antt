@@ -1,18 +1,15 @@
 -- The promise of `good` determines its answer: two numbers that have it are equal. No character is the beginning of another, so bytes
 -- spell one row of characters only. Assumes nothing.
-use Prim.Native.Nat.{ℕ, _+_, _*_, _-_}
-use native.Mathlib.Nat.{div-div-eq-div-mul}
+use Prim.Native.Nat.{ℕ}
 use native.Mathlib.Omega.{arith}
-use mathlib.Core.Path.{_≡_, refl, ap, sym, _∙_}
-use mathlib.Core.Logic.{⊎-elim}
-use mathlib.Core.List.{List, [], _∷_, _++_, append-assoc, append-cancel-left}
-use mathlib.Core.Bool.{cond}
-use borrow.Author.Tests.{lt-ltb, le-ltb}
-use lib.Dec.{ltb}
-use lib.ListN.{length, getD, drop, length-drop}
+use mathlib.Core.Path.{_≡_, ap, sym, _∙_}
+use mathlib.Core.List.{List, _++_, append-assoc, append-cancel-left}
+use lib.ListN.{length, length-drop}
 use Rattle.utf8.specs.Unicode.{encode}
-use Rattle.utf8.specs.Good.{spelled, Scalars, none, more, Begins, Good}
+use Rattle.utf8.specs.Good.{spelled, Scalars, none, more, Good}
+use Rattle.utf8.specs.Inner.Check.{Begins}
 use Rattle.utf8.proofs.Chars.{decoded}
+use Rattle.utf8.proofs.Runs.{spells, no-further}
 
 same-char : {s : List ℕ} (a b : Begins s) → a .char ≡ b .char
 same-char a b = decoded a ∙ sym (decoded b)
@@ -38,8 +35,10 @@ same-left {t = t} {u = u} (more {c = c} {cs = cs} h r) (more {c = d} {cs = ds} g
 
 pub good-unique : {s : List ℕ} {m n : ℕ} → Good s m → Good s n → m ≡ n
 good-unique {s} {m} {n} a b =
-    let e = ap length (same-left (a .spells .scalars) (b .spells .scalars) (sym (a .spells .front) ∙ b .spells .front) (a .stuck) (b .stuck)) in
+    let p = spells a in
+    let q = spells b in
+    let e = ap length (same-left (p .scalars) (q .scalars) (sym (p .front) ∙ q .front) (no-further a) (no-further b)) in
     let f = simp length-drop at e in
-    let h = a .spells .within in
-    let k = b .spells .within in
+    let h = a .within in
+    let k = b .within in
     omega arith

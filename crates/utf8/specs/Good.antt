@@ -4,7 +4,7 @@ use Prim.Native.Nat.{ℕ, _≤_}
 use mathlib.Core.Path.{_≡_}
 use mathlib.Core.List.{List, [], _∷_, _++_}
 use mathlib.Core.Bool.{true}
-use lib.ListN.{length, getD, drop}
+use lib.ListN.{length, take, drop}
 use Rattle.utf8.specs.Unicode.{scalar, encode}
 
 -- the bytes of a row of characters
@@ -16,20 +16,14 @@ pub data Scalars : List ℕ → Type 0 where
   none : Scalars []
   more : {c : ℕ} {cs : List ℕ} → scalar c ≡ true → Scalars cs → Scalars (c ∷ cs)
 
--- a whole good character stands at the front
-pub record Begins (s : List ℕ) : Type 0 where
-  pub char : ℕ
-  pub good : scalar char ≡ true
-  pub rest : List ℕ
-  pub is : s ≡ encode char ++ rest
-
--- the first k bytes of s spell whole good characters
-pub record Spells (s : List ℕ) (k : ℕ) : Type 0 where
+-- "UTF-8 is Unicode's": the bytes of a row of Unicode's scalar values
+pub record Utf8 (l : List ℕ) : Type 0 where
   pub chars : List ℕ
   pub scalars : Scalars chars
-  pub within : k ≤ length s
-  pub front : s ≡ spelled chars ++ drop k s
+  pub is : l ≡ spelled chars
 
+-- the first k bytes of s are whole good characters, and behind them none begins
 pub record Good (s : List ℕ) (k : ℕ) : Type 0 where
-  pub spells : Spells s k
-  pub stuck : Begins (drop k s) → ⊥
+  pub within : k ≤ length s
+  pub text : Utf8 (take k s)
+  pub stuck : (c : ℕ) → scalar c ≡ true → (rest : List ℕ) → ¬ (drop k s ≡ encode c ++ rest)

@@ -8,10 +8,11 @@ use lib.IntN.{pos}
 use lib.Ieee.{binary64, ofBits}
 use lib.ListN.{length, drop}
 use Rattle.fields.specs.Be.{beAt, signed}
-use Rattle.literal.specs.Trim.{trimmed}
+use Rattle.literal.specs.Inner.Trim.{trimmed}
 use Rattle.heads.specs.declared.Value.{Value}
 use Rattle.heads.specs.declared.Value.the-variants as value
-use Rattle.layouts.specs.Tree.{Tree, Forest, node, none, more, leaf, tagOf, frontOf, count}
+use Rattle.layouts.specs.Tree.{Tree, Forest, node, none, more, leaf, tagOf, count}
+use Rattle.layouts.specs.Inner.Shape.{frontOf}
 use Rattle.agree.specs.Head.{lengthBytes}
 
 -- "sign byte (nonzero is negative), n digit bytes", behind n's k bytes; the front starts at p

@@ -9,7 +9,7 @@ use Rattle.numbers.specs.Caps as cap
 use Rattle.numbers.specs.Numbers as number
 use Rattle.reading.specs.declared.Answer.{Answer}
 use Rattle.heads.specs.declared.Value.{Value}
-use Rattle.heads.specs.Run.{Run, name, bytes, refusal, none, runOf}
+use Rattle.heads.specs.Inner.Run.{Run, name, bytes, refusal, none, runOf}
 use Rattle.agree.specs.Head.{atomAt, atOnce, ownOffset}
 
 pub data Said : Type 0 where

@@ -2,7 +2,7 @@
 use native.Mathlib.Omega.{arith}
 use mathlib.Core.Path.{ap, sym, subst, _∙_}
 use borrow.Author.Needs.{needs}
-use Rattle.heads.specs.Run.{runOf, partOf}
+use Rattle.heads.specs.Inner.Run.{runOf, partOf}
 use Rattle.heads.specs.Inner.Head.{partAt}
 use Rattle.heads.specs.declared.Value.{Value}
 use Rattle.heads.specs.declared.Headed.{Headed}

@@ -10,7 +10,7 @@ use lib.Ieee.{binary64, ofBits}
 use lib.ListN.{length, getD, take, drop}
 use Rattle.fields.specs.Be.{signed}
 use Rattle.fields.specs.Field.{holds, numberThen, numberAt}
-use Rattle.literal.specs.Trim.{trimmed}
+use Rattle.literal.specs.Inner.Trim.{trimmed}
 use Rattle.numbers.specs.Caps as cap
 use Rattle.numbers.specs.Numbers as number
 use Rattle.rows.specs.Row.{countThen}
@@ -20,7 +20,7 @@ use Rattle.rows.specs.declared.Row.the-variants as row
 use Rattle.heads.specs.declared.Value.{Value}
 use Rattle.heads.specs.declared.Value.the-variants as value
 use Rattle.heads.specs.declared.Headed.{Headed}
-use Rattle.heads.specs.Run.{Run, name, bytes, refusal, none, runOf, partOf}
+use Rattle.heads.specs.Inner.Run.{Run, name, bytes, refusal, none, runOf, partOf}
 
 -- a refusal whose extra is 0
 abbrev pub no : ℕ → ℕ → Value

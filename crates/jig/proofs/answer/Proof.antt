@@ -1,7 +1,6 @@
 -- `jig::answer` meets its contract: with no segment no word is written. Assumes nothing.
-use mathlib.Core.Path.{refl, sym}
+use mathlib.Core.Path.{refl}
 use borrow.Author.Needs.{needs}
-use native.Mathlib.Omega.{arith}
 use Rattle.jig.specs.Shown.{segments, pathWords}
 use Rattle.jig.proofs.answer.Statement.{statement}
 use Rattle.jig.proofs.answer.Tie as tie

@@ -1,6 +1,6 @@
 -- `jig::trace` meets its contract. The loop's invariant: the segments that are left, over the words as they are, are all segments
 -- over the words as they were. The measure is the segments left. Assumes nothing.
-use mathlib.Core.Path.{_≡_, refl, sym, _∙_}
+use mathlib.Core.Path.{_≡_, _∙_}
 use mathlib.Core.List.{List}
 use Prim.Native.Nat.{ℕ, suc, _+_, _-_, _*_, _≤_, _<_}
 use native.Mathlib.Omega.{arith}

@@ -7,49 +7,32 @@ use Rattle.layouts.proofs.Shapes.{by-tag, past, large}
 use Rattle.layouts.proofs.inner_at.Statement.{statement}
 use Rattle.layouts.proofs.inner_at.Tie as tie
 
-returns : tie.Need-returns
-returns c = c .ends .ensures ∙ past _ _ (c .before .if1 .taken)
-
-returns-2 : tie.Need-returns-2
-returns-2 c = c .ends2 .ensures ∙ large _ _ (c .before .before .if1 .left) (c .before .if2 .taken)
-
-returns-3 : tie.Need-returns-3
-unfolding shapeBy
-returns-3 c = rw (c .inner .ensures, c .before .u8-at .ensures .0) (by-tag _ _ 104 (omega arith) (omega arith) (c .before .before .if3 .taken))
-
-returns-4 : tie.Need-returns-4
-unfolding shapeBy
-returns-4 c = rw (c .inner2 .ensures, c .before .u32-at .ensures .0) (by-tag _ _ 108 (omega arith) (omega arith) (c .before .before .if4 .taken))
-
-returns-5 : tie.Need-returns-5
-unfolding shapeBy
-returns-5 c = rw (c .inner3 .ensures, c .before .u32-at2 .ensures .0) (by-tag _ _ 116 (omega arith) (omega arith) (c .before .before .if5 .taken))
-
 pub inner-at-spec : {M : Type 1} → statement M
+unfolding shapeBy
 inner-at-spec =
     tie.close
     (tie.spec
     (λ c κs. search needs)
-    returns
+    (λ c. c .ends .ensures ∙ past _ _ (c .before .if1 .taken))
     (λ c κs. search needs)
-    returns-2
+    (λ c. c .ends2 .ensures ∙ large _ _ (c .before .before .if1 .left) (c .before .if2 .taken))
     (λ c. search needs)
-    (λ c. search needs)
-    (λ c. search needs)
-    (λ c κs. search needs)
-    (λ c κs. search needs)
-    returns-3
     (λ c. search needs)
     (λ c. search needs)
     (λ c κs. search needs)
-    (λ c. search needs)
     (λ c κs. search needs)
-    returns-4
+    (λ c. rw (c .inner .ensures, c .before .u8-at .ensures .0) (by-tag _ _ 104 (omega arith) (c .before .before .if3 .taken)))
     (λ c. search needs)
     (λ c. search needs)
     (λ c κs. search needs)
     (λ c. search needs)
     (λ c κs. search needs)
-    returns-5
+    (λ c. rw (c .inner2 .ensures, c .before .u32-at .ensures .0) (by-tag _ _ 108 (omega arith) (c .before .before .if4 .taken)))
+    (λ c. search needs)
+    (λ c. search needs)
+    (λ c κs. search needs)
+    (λ c. search needs)
+    (λ c κs. search needs)
+    (λ c. rw (c .inner3 .ensures, c .before .u32-at2 .ensures .0) (by-tag _ _ 116 (omega arith) (c .before .before .if5 .taken)))
     (λ c κs. search needs)
     (λ c. search needs))

@@ -43,6 +43,10 @@ shapeBy b p tag =
 unfoldable pub shapeAt : List ℕ → ℕ → Shape
 shapeAt b p = cond (ltb p (length b) && leb (length b) cap.input) (shapeBy b p (getD b p 0)) (ends p)
 
+-- what stands between a tree's tag and its children
+abbrev pub frontOf : Tree → List ℕ
+frontOf (node tag front kids back) = front
+
 -- the shape of a tree that stands at p
 abbrev pub shapeOf : Tree → ℕ → Shape
 shapeOf (node tag front kids back) p = inner (p + 1 + length front) (count kids) (length back)

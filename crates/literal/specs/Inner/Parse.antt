@@ -5,7 +5,6 @@ use mathlib.Core.List.{List, [], _∷_}
 use Prim.Native.Nat.{ℕ, _+_}
 use lib.Dec.{eqb, leb, ltb}
 use lib.ListN.{length, getD, drop}
-use Rattle.literal.specs.Literal.{inf-text, infinity-text, nan-text}
 
 -- "an optional sign", + (43) or - (45): what stands after it
 unfoldable pub afterSign : List ℕ → List ℕ
@@ -44,7 +43,17 @@ isNumber s =
     let u = afterDigits (drop 1 t) in
     cond (eqb (getD t 0 0) 46) (ltb (length u + 1) (length s) && isEnding u) (ltb (length t) (length s) && isEnding t)
 
--- a sign, then "inf, infinity or nan", or a number
+-- "inf, infinity or nan"
+abbrev pub inf-text : List ℕ
+inf-text = 105 ∷ 110 ∷ 102 ∷ []
+
+abbrev pub infinity-text : List ℕ
+infinity-text = 105 ∷ 110 ∷ 102 ∷ 105 ∷ 110 ∷ 105 ∷ 116 ∷ 121 ∷ []
+
+abbrev pub nan-text : List ℕ
+nan-text = 110 ∷ 97 ∷ 110 ∷ []
+
+-- a sign, then one of these, or a number
 unfoldable pub isLiteral : List ℕ → Bool
 unfolding afterSign isDigit afterDigits isCased isWord isEnding isNumber
 isLiteral s =

@@ -29,7 +29,7 @@ returns-2 : tie.Need-returns-2
 returns-2 c = record { is = λ t i. rw (c .before .before .enum-told .given .1) (c .same2 .ensures ∙ long-name i (c .before .before .before .before .before .before .before .pre .1) (c .before .match2 .keys2) .tells _) }
 
 returns-3 : tie.Need-returns-3
-returns-3 c = record { is = λ t i. rw (c .before .enum-told .given .1) (sym (not-atom i _ (c .match2 .rest .0 .1) (c .match2 .rest .1))) }
+returns-3 c = record { is = λ t i. rw (c .before .enum-told .given .1) (sym (search (not-atom i))) }
 
 returns-4 : tie.Need-returns-4
 returns-4 c = record { is = λ t i. rw (c .before .before .before .key .given .1) (byte-tells i (c .before .match3 .keys1) (record { sfits = omega (arith, c .shared-slice-known4 .given (c .before .before .before .before .before .before .before .before .args .at + 1)) }) (search needs)) }
@@ -41,7 +41,7 @@ returns-6 : tie.Need-returns-6
 returns-6 c = record { is = λ t i. absurd (word-there i (c .before .before .before .match3 .keys2) (sym (c .before .before .be-i32 .ensures) ∙ c .enum-told2 .given .1)) }
 
 returns-7 : tie.Need-returns-7
-returns-7 c = record { is = λ t i. rw (c .before .before .key .given .1) (sym (not-integer i _ (c .match3 .rest .0 .1) (c .match3 .rest .1))) }
+returns-7 c = record { is = λ t i. rw (c .before .before .key .given .1) (sym (search (not-integer i))) }
 
 pub equal-spec : {M : Type 1} → statement M
 equal-spec =

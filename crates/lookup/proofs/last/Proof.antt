@@ -5,7 +5,7 @@ use mathlib.Core.Path.{_∙_}
 use mathlib.Core.Logic.{⊎-elim}
 use borrow.Author.Needs.{needs}
 use Rattle.layouts.specs.Tree.{Forest}
-use Rattle.lookup.specs.Lookup.{found}
+use Rattle.lookup.specs.Inner.Found.{found}
 use Rattle.lookup.specs.Inner.Walk.{keyOf, Terms}
 use Rattle.lookup.proofs.Entries.{Left, at-first, at-last, a-key, a-value, entry-on}
 use Rattle.lookup.proofs.last.Statement.{statement}

@@ -5,7 +5,7 @@ use mathlib.Core.Path.{_≡_, refl, sym, _∙_}
 use borrow.Author.Needs.{needs}
 use lib.ListN.{length, take, drop, length-drop}
 use lib.Seq.{length-take-le}
-use Rattle.lookup.specs.Lookup.{sameBytes}
+use Rattle.lookup.specs.Inner.Found.{sameBytes}
 use Rattle.lookup.proofs.Compare.{lengths-differ, goes-on, differs, at-end}
 use Rattle.lookup.proofs.same.Statement.{statement}
 use Rattle.lookup.proofs.same.Tie as tie

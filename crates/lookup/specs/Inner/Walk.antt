@@ -11,7 +11,8 @@ use Rattle.layouts.specs.Layout.{Laid, AllLaid}
 use Rattle.lookup.specs.declared.Key as code
 use Rattle.lookup.specs.declared.Key.the-variants as sought
 use Rattle.lookup.specs.declared.Place.{Place}
-use Rattle.lookup.specs.Lookup.{Key, name, number, equal, found}
+use Rattle.lookup.specs.Lookup.{Key, name, number}
+use Rattle.lookup.specs.Inner.Found.{equal, found}
 
 -- the key that the code is looking for: a name is passed beside it
 abbrev pub keyOf : code.Key → List ℕ → Key

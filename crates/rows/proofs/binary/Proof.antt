@@ -2,7 +2,6 @@
 use native.Mathlib.Omega.{arith}
 use mathlib.Core.Path.{sym, _∙_}
 use borrow.Author.Needs.{needs}
-use Rattle.rows.specs.Layout.{binary}
 use Rattle.rows.proofs.Laws.{count-there, counted-is, counted-no}
 use Rattle.rows.proofs.binary.Statement.{statement}
 use Rattle.rows.proofs.binary.Tie as tie
@@ -23,11 +22,9 @@ enum-known-size-2 : tie.Need-enum-known-size-2
 enum-known-size-2 c = search needs
 
 returns : tie.Need-returns
-unfolding binary
 returns c = c .bytes .ensures ∙ sym (counted-is _ _ _ _ _ (sym (c .before .before .before .before .count .ensures) ∙ c .before .before .size .given .1))
 
 returns-2 : tie.Need-returns-2
-unfolding binary
 returns-2 c = sym (counted-no _ _ _ _ _ (sym (c .before .before .before .count .ensures) ∙ c .before .size2 .given .1))
 
 pub binary-spec : {M : Type 1} → statement M

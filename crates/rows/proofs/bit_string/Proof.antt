@@ -2,7 +2,6 @@
 use native.Mathlib.Omega.{arith}
 use mathlib.Core.Path.{sym, _∙_}
 use borrow.Author.Needs.{needs}
-use Rattle.rows.specs.Layout.{bitString}
 use Rattle.rows.proofs.Laws.{count-there, counted-is, counted-no}
 use Rattle.rows.proofs.bit_string.Statement.{statement}
 use Rattle.rows.proofs.bit_string.Tie as tie
@@ -23,11 +22,9 @@ enum-known-length-2 : tie.Need-enum-known-length-2
 enum-known-length-2 c = search needs
 
 returns : tie.Need-returns
-unfolding bitString
 returns c = c .bits .ensures ∙ sym (counted-is _ _ _ _ _ (sym (c .before .before .before .before .count .ensures) ∙ c .before .before .length .given .1))
 
 returns-2 : tie.Need-returns-2
-unfolding bitString
 returns-2 c = sym (counted-no _ _ _ _ _ (sym (c .before .before .before .count .ensures) ∙ c .before .length2 .given .1))
 
 pub bit-string-spec : {M : Type 1} → statement M

@@ -10,7 +10,7 @@ use borrow.Author.Needs.{needs}
 use Rattle.rows.proofs.Laws.{name-to, part, number-text, no-text}
 use Rattle.literal.proofs.Trims.{trimmed-is}
 use Rattle.literal.specs.Inner.Parse.{isLiteral}
-use Rattle.literal.specs.Trim.{trimmed}
+use Rattle.literal.specs.Inner.Trim.{trimmed}
 use Rattle.rows.proofs.number_text.Statement.{statement}
 use Rattle.rows.proofs.number_text.Tie as tie
 

@@ -1,5 +1,4 @@
 -- `tape::read`: where reading may begin it is `record`. Assumes nothing.
-use native.Mathlib.Omega.{arith}
 use mathlib.Core.Path.{sym, _∙_}
 use borrow.Author.Needs.{needs}
 use Rattle.reading.proofs.Answers.{starts-reads}

@@ -29,10 +29,9 @@ fill-requires c κs = laws.good _ _ _ (c .before .before .before .before .before
 
 returns-6 : tie.Need-returns-6
 returns-6 c =
-    record {
-      answered = laws.whole-done _ _ _ (c .before .before .before .before .before .before .before .before .read .ensures) (c .before .before .before .before .before .before .if3 .left) (c .before .before .before .before .before .if4 .left) (c .before .before .before .before .if5 .left) ∙ sym (laws.read-on _ _ _ (λ e. omega arith) (omega arith) (omega arith) (c .before .before .before .before .before .before .before .before .before .before .before .if1 .left) (c .before .before .before .before .before .before .before .before .before .if2 .left));
-      left = laws.left-taped (c .before .before .before .before .before .before .if3 .left) (laws.good _ _ _ (c .before .before .before .before .before .before .before .before .read .ensures) (c .before .before .before .before .before .before .if3 .left) (omega arith) (c .before .before .before .before .if5 .left)) (c .before .before .fill .ensures);
-    }
+    laws.writes
+    (laws.whole-done _ _ _ (c .before .before .before .before .before .before .before .before .read .ensures) (c .before .before .before .before .before .before .if3 .left) (c .before .before .before .before .before .if4 .left) (c .before .before .before .before .if5 .left) ∙ sym (laws.read-on _ _ _ (λ e. omega arith) (omega arith) (omega arith) (c .before .before .before .before .before .before .before .before .before .before .before .if1 .left) (c .before .before .before .before .before .before .before .before .before .if2 .left)))
+    (c .before .before .before .before .before .before .if3 .left) (laws.good _ _ _ (c .before .before .before .before .before .before .before .before .read .ensures) (c .before .before .before .before .before .before .if3 .left) (omega arith) (c .before .before .before .before .if5 .left)) (c .before .before .fill .ensures)
 
 pub record-spec : {M : Type 1} → statement M
 record-spec =

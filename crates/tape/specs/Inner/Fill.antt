@@ -1,13 +1,26 @@
 -- How the tape is written when its input is known to be good: what the functions that write it rely on, and what they leave.
 use Prim.Native.Nat.{ℕ, _+_, _*_, _≤_}
 use mathlib.Core.Path.{_≡_}
-use mathlib.Core.List.{List}
-use lib.ListN.{length, set}
+use mathlib.Core.List.{List, [], _∷_, flatMap}
+use lib.ListN.{length, getD, set}
 use lib.Seq.{sets}
 use Rattle.numbers.specs.Caps as cap
-use Rattle.layouts.specs.Tree.{Tree, Stands, bytes, size}
+use Rattle.layouts.specs.Tree.{Tree, Forest, Stands, bytes, size}
 use Rattle.layouts.specs.Layout.{Laid}
-use Rattle.tape.specs.Cells.{cellWords, words}
+use Rattle.layouts.specs.Nodes.{nodesAll}
+use Rattle.tape.specs.Cells.{cellWords, cellOf, words}
+
+-- the words of trees side by side, the first of which starts at p and has the cell c
+unfoldable pub wordsAll : Forest → (p up c : ℕ) → List ℕ
+wordsAll ts p up c = flatMap cellOf (nodesAll ts p up c)
+
+-- the words of a cell
+abbrev pub cell : (tag start end parent size : ℕ) → List ℕ
+cell tag start end parent size = tag ∷ start ∷ end ∷ parent ∷ size ∷ []
+
+-- the tag in cell i
+abbrev pub tagAt : List ℕ → ℕ → ℕ
+tagAt tape i = getD tape (cellWords * i + 0) 0
 
 -- the words of a cell that are known before its children, and those that are known after them
 abbrev pub opened : List ℕ → (cell tag start up : ℕ) → List ℕ

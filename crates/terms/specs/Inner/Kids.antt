@@ -1,12 +1,27 @@
--- The children of a tuple, a list with its tail, a map and a function, as one loop reads them.
+-- The children of a tuple, a list with its tail, a map and a function, as one loop reads them, and those that a row requires.
 use Prim.Native.Nat.{ℕ, zero, suc, _+_, _%_}
-use mathlib.Core.Bool.{cond}
+use mathlib.Core.List.{List}
+use mathlib.Core.Bool.{Bool, cond}
 use lib.Dec.{eqb}
 use Rattle.terms.specs.declared.Family.{Family}
 use Rattle.terms.specs.declared.Family.the-variants as family
+use Rattle.terms.specs.declared.Needed.{Needed}
+use Rattle.terms.specs.declared.Needed.the-variants as needed
 use Rattle.reading.specs.declared.Kind.the-variants as kind
 use Rattle.reading.specs.declared.Segment.{Segment}
-use Rattle.reading.specs.Reading.{State, Result, done, andThen, entered}
+use Rattle.reading.specs.Reading.{State, Result, done, andThen, entered, pass}
+use Rattle.reading.specs.Terms.{required, isAtom, isNatural, isPid}
+
+-- what a required child is judged by
+abbrev pub fits : Needed → List ℕ → ℕ → Bool
+fits needed.Atom = isAtom
+fits needed.Arity = isNatural 255
+fits needed.Natural = isNatural 2147483647
+fits needed.Pid = isPid
+
+-- an atom, and n bytes
+abbrev pub named : (State → Result) → List ℕ → ℕ → State → Result
+named read b n s = andThen (required read (isAtom b) s) (pass b n)
 
 -- so many children at most, so that a number fits its segment
 abbrev pub most : Family → ℕ

@@ -5,9 +5,6 @@ use Prim.Native.Nat.{ℕ, zero, suc, _+_, _-_, _≤_, _<_, _/_, _%_, max}
 use mathlib.Core.List.{List, [], _∷_}
 use lib.ListN.{length, getD}
 use Rattle.numbers.specs.Caps as cap
-use Rattle.rows.specs.Layout.{rowAt}
-use Rattle.rows.specs.declared.Row.{Row}
-use Rattle.rows.specs.declared.Row.the-variants.{To, No}
 use Rattle.reading.specs.declared.Kind.{Kind}
 use Rattle.reading.specs.declared.Kind.the-variants.{Tuple, List as KList, Tail, Key, Value, Free}
 use Rattle.reading.specs.declared.Segment.{Segment}
@@ -76,15 +73,6 @@ pub record Short (b : List ℕ) (rem at end : ℕ) : Type 0 where
   pub inside : end ≤ length b
   pub same : (limit last count deep : ℕ) →
       term b limit rem (record { at = at; last = last; begun = count; deepest = deep }) ≡ done (record { at = end; last = at; begun = count + 1; deepest = max deep (limit + 1 - rem) })
-
--- the row of a tag that stands at a place ends there
-pub record LeafTo (b : List ℕ) (tag at end : ℕ) : Type 0 where
-  pub same : rowAt b tag (at + 1) ≡ To end
-
--- a row's answer, as a number and the lent numbers say it
-pub data Settled (row : Row) (r : ℕ) (fault : List ℕ) : Type 0 where
-  to : row ≡ To r → length fault ≡ 67 → Settled row r fault
-  refused : {n x : ℕ} → row ≡ No n x → ((seen : List ℕ) (at len room : ℕ) → Shows r seen fault len room (no n x (place at seen) [])) → Settled row r fault
 
 -- what the lent numbers are
 pub record Kept (last count deep : ℕ) (seen : List ℕ) : Type 0 where

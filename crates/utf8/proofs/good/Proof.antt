@@ -5,8 +5,8 @@ use native.Mathlib.Omega.{arith}
 use Prim.Native.Nat.{_-_}
 use Rattle.utf8.proofs.Unique.{good-unique}
 use Rattle.utf8.proofs.Meaning.{good-bytes}
-use Rattle.utf8.proofs.Runs.{none-yet, one-more, stuck-here, ascii-more, at-end, step}
-use Rattle.utf8.specs.Good.{Spells}
+use Rattle.utf8.proofs.Runs.{none-yet, one-more, stuck-here, ascii-more, at-end, step, good-to}
+use Rattle.utf8.specs.Inner.Check.{Spells}
 use Rattle.utf8.proofs.good.Statement.{statement}
 use Rattle.utf8.proofs.good.Tie as tie
 
@@ -38,7 +38,7 @@ char-at-requires : tie.Need-char-at-requires Inv-loop μ-loop
 char-at-requires c κs = omega arith
 
 returns : tie.Need-returns Inv-loop μ-loop
-returns c = good-unique (record { spells = c .before .before .before .before .before .loop .inv; stuck = stuck-here (c .before .before .before .before .before .loop .inv) (c .before .char-at .ensures) (c .if2 .taken) }) (good-bytes _)
+returns c = good-unique (good-to (c .before .before .before .before .before .loop .inv) (stuck-here (c .before .before .before .before .before .loop .inv) (c .before .char-at .ensures) (c .if2 .taken))) (good-bytes _)
 
 add-i : tie.Need-add-i Inv-loop μ-loop
 add-i c = omega (arith, step (c .before .before .before .before .before .loop .inv) (c .before .char-at .ensures))
@@ -50,7 +50,7 @@ loop-again-2 : tie.Need-loop-again-2 Inv-loop μ-loop
 loop-again-2 c = one-more (c .before .before .before .before .before .loop .inv) _ (c .before .char-at .ensures) (c .if2 .left)
 
 returns-2 : tie.Need-returns-2 Inv-loop μ-loop
-returns-2 c = good-unique (record { spells = c .before .loop .inv; stuck = at-end (c .before .before .before .args .s .now) (c .before .loop .i) (omega arith) }) (good-bytes _)
+returns-2 c = good-unique (good-to (c .before .loop .inv) (at-end (c .before .before .before .args .s .now) (c .before .loop .i) (omega arith))) (good-bytes _)
 
 pub good-spec : {M : Type 1} → statement M
 good-spec =

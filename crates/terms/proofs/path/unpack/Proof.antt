@@ -26,7 +26,7 @@ returns-5 c = rw (c .match .keys5)
 
 returns-6 : tie.Need-returns-6
 unfolding unpacked
-returns-6 c = let r = c .match .rest in rw (free-kind _ (r .0 .0 .0 .0 .1) (r .0 .0 .0 .1) (r .0 .0 .1) (r .0 .1) (r .1))
+returns-6 c = search free-kind
 
 pub unpack-spec : {M : Type 1} → statement M
 unpack-spec = tie.close (tie.spec returns returns-2 returns-3 returns-4 returns-5 returns-6)
