@@ -6,7 +6,7 @@ use native.Mathlib.Nat.{add-zero, zero-add}
 use mathlib.Core.Path.{_≡_, refl, _∙_}
 use mathlib.Core.Bool.{Bool, true}
 use mathlib.Core.List.{List, [], _++_, append-assoc, append-nil}
-use lib.ListN.{length, length-append}
+use lib.ListN.{length, getD, length-append}
 use borrow.Author.Tests.{lt-ltb, le-leb}
 use Rattle.fields.specs.Be.{be}
 use Rattle.fields.specs.Field.{numberAt}
@@ -16,7 +16,7 @@ use Rattle.reading.specs.declared.Kind.{Kind}
 use Rattle.reading.specs.declared.Kind.the-variants as kind
 use Rattle.reading.specs.Reading.{State, Result, done, andThen, entered, moved, begin, fields, pass, sized, counted}
 use Rattle.reading.specs.Terms as terms
-use Rattle.reading.specs.Terms.{byteAt, elems, pair, pairs, required, isAtom, isNatural, isPid, body, term}
+use Rattle.reading.specs.Terms.{elems, pair, pairs, required, isAtom, isNatural, isPid, body, term}
 use Rattle.reading.proofs.Families.{fields-to, pass-on, sized-is, counted-is, required-good, then-done, assoc, is-pid}
 use Rattle.rows.proofs.Laws.{count-in}
 use Rattle.layouts.specs.Tree.{Tree, Forest, node, none, more, leaf, tagOf, count, bytes, bytesAll, size, sizes, depth, depths, Stands}
@@ -184,7 +184,7 @@ module _ (b : List ℕ) (around : ℕ) where
     needed fits x k = record { over = likewise (λ s t h e. required-good read fits s e (k (s .at) h)) (x .over) }
 
     -- a term's first byte is its tag, and what stands behind it is its number
-    first : (t : Tree) (p : ℕ) → Stands b p (bytes t) → byteAt b p ≡ tagOf t
+    first : (t : Tree) (p : ℕ) → Stands b p (bytes t) → getD b p 0 ≡ tagOf t
     unfolding bytes
     first (node tag front kids back) p h = byte b p tag _ h
 
@@ -197,7 +197,7 @@ module _ (b : List ℕ) (around : ℕ) where
     unfolding isAtom
     an-atom {x} c w = needed (isAtom b) c (λ p h. go p w (first x p h))
       where
-        go : (p : ℕ) {tag : ℕ} → IsAtom tag → byteAt b p ≡ tag → isAtom b p ≡ true
+        go : (p : ℕ) {tag : ℕ} → IsAtom tag → getD b p 0 ≡ tag → isAtom b p ≡ true
         go p lay.atom-100 e = rw e
         go p lay.atom-118 e = rw e
         go p lay.atom-119 e = rw e

@@ -5,8 +5,8 @@ use native.Mathlib.Omega.{arith}
 use mathlib.Core.Path.{_≡_, refl, ap, sym, subst, _∙_}
 use mathlib.Core.Logic.{_↔_}
 use mathlib.Core.List.{List, [], _∷_, _++_, append-nil}
-use mathlib.Core.Bool.{Bool, true, false, cond, _&&_, _||_, and-eq-true-iff}
-use borrow.Author.Tests.{eqb-true, eqb-false, eq-eqb, leb-true, le-leb}
+use mathlib.Core.Bool.{Bool, true, false, cond, _||_}
+use borrow.Author.Tests.{eqb-true, eq-eqb, leb-true, le-leb}
 use lib.Dec.{eqb, leb}
 use lib.ListN.{length, take, drop, length-append}
 use lib.Seq.{take-length, drop-length}
@@ -35,7 +35,7 @@ use Rattle.rows.proofs.Laws.{bytes-there}
 use Rattle.rows.proofs.Ends.{bytes-to, bytes-within}
 use Rattle.layouts.specs.Tree.{Stands}
 use Rattle.layouts.specs.Layout as layout
-use Rattle.layouts.specs.Layout.{Number, NumberText, BitsByte, Leaf}
+use Rattle.layouts.specs.Layout.{Number, NumberText, Leaf}
 use Rattle.layouts.proofs.Stands.{part, stands, empty, both, left, right, spells, number as number-at}
 
 -- a run of bytes behind a tag, which is a row without children and ends at e
@@ -60,22 +60,6 @@ utf8-is l = (
         front = u .is ∙ sym (append-nil (spelled (u .chars))) ∙ ap (λ (r : List ℕ). spelled (u .chars) ++ r) (sym (drop-length l));
       }) (at-end l (length l) (omega arith)))),
 )
-
-bits-is : (n k : ℕ) → (rows.bitsByte n k ≡ true) ↔ BitsByte n k
-unfolding rows.bitsByte
-bits-is n k = go (eqb n 0) refl
-  where
-    go : (t : Bool) → eqb n 0 ≡ t → (cond t (eqb k 8) (leb 1 k && leb k 8) ≡ true) ↔ BitsByte n k
-    go true e = (
-      λ h. let x = eqb-true k 8 h in record { low = omega arith; high = omega arith; empty = λ z. x },
-      λ x. eq-eqb k 8 (x .empty (eqb-true n 0 e)),
-    )
-    go false e = (
-      λ h.
-          let x = and-eq-true-iff (leb 1 k) (leb k 8) .0 h in
-          record { low = leb-true 1 k (x .0); high = leb-true k 8 (x .1); empty = λ z. absurd (eqb-false n 0 e z) },
-      λ x. and-eq-true-iff (leb 1 k) (leb k 8) .1 (le-leb 1 k (x .low), le-leb k 8 (x .high)),
-    )
 
 cap-is : (n most : ℕ) → (leb n most ≡ true) ↔ (n ≤ most)
 cap-is n most = (leb-true n most, le-leb n most)
@@ -123,7 +107,7 @@ abbrev Digits : ℕ → List ℕ → Type 0
 Digits n = Joined (λ l. length l ≡ 1) (λ l. length l ≡ n)
 
 abbrev Bits : ℕ → List ℕ → Type 0
-Bits n l = (n ≤ cap.binary) × Counted 1 (λ k m. BitsByte n k × (length m ≡ n)) l
+Bits n l = (n ≤ cap.binary) × Counted 1 (λ k m. (cap.bitsByte n k ≡ true) × (length m ≡ n)) l
 
 -- the text of a number
 abbrev Text : List ℕ → Type 0
@@ -241,7 +225,7 @@ module _ (b : List ℕ) where
   unfolding rows.bitsThen row.countThen
   bits-read p =
       sized-reads 4 p _ (λ n. guard-reads (leb n cap.binary) _ number.Size (cap-is n cap.binary)
-      (sized-reads 1 (p + 4) _ (λ k. guard-reads (rows.bitsByte n k) (row.bytes b n (p + 4 + 1)) number.Bits (bits-is n k) (bytes-reads n (p + 4 + 1)))))
+      (sized-reads 1 (p + 4) _ (λ k. guard-reads (cap.bitsByte n k) (row.bytes b n (p + 4 + 1)) number.Bits (λ e. e, λ e. e) (bytes-reads n (p + 4 + 1)))))
 
   big-reads : (k p : ℕ) → Reads b p (row.sized k b (rows.digits b) p) (Counted k Digits)
   unfolding rows.digits

@@ -6,7 +6,7 @@ use mathlib.Core.Path.{_≡_, refl, ap, sym, _∙_}
 use mathlib.Core.List.{List, [], _++_}
 use mathlib.Core.Bool.{Bool, true, false, cond, _||_}
 use lib.Dec.{ltb, leb, eqb}
-use lib.ListN.{length, take, drop, length-append}
+use lib.ListN.{length, getD, take, drop, length-append}
 use borrow.Author.Tests.{leb-true, eqb-true}
 use Rattle.fields.specs.Be.{be}
 use Rattle.fields.specs.Field.{fieldAt, numberAt}
@@ -27,7 +27,7 @@ use Rattle.reading.specs.declared.Kind.{Kind}
 use Rattle.reading.specs.declared.Kind.the-variants as kind
 use Rattle.reading.specs.declared.Segment.{Segment}
 use Rattle.reading.specs.Reading.{State, Result, done, no, andThen, entered, moved, begin, fields, pass, sized, counted}
-use Rattle.reading.specs.Terms.{byteAt, elems, pair, pairs, required, isAtom, isNatural, isPid}
+use Rattle.reading.specs.Terms.{elems, pair, pairs, required, isAtom, isNatural, isPid}
 use Rattle.reading.specs.Terms.{smallTuple, largeTuple, list, map, pid, reference, export, captured, function, body, term}
 use Rattle.reading.proofs.Bounds.{ends}
 use Rattle.reading.proofs.Families.{sized-is, sized-eof, counted-is, counted-no}
@@ -147,7 +147,7 @@ module _ (b : List ℕ) where
 
   -- a tree is judged by its first byte and, if it is an integer, by the number behind it
 
-  tagged : (p : ℕ) (x : Tree) → Stands b p (bytes x) → byteAt b p ≡ tagOf x
+  tagged : (p : ℕ) (x : Tree) → Stands b p (bytes x) → getD b p 0 ≡ tagOf x
   unfolding bytes
   tagged p (node tag front kids back) s = stand.byte b p tag _ s
 
@@ -246,7 +246,7 @@ module _ (b : List ℕ) where
       abbrev u : State
       u = begin level s
 
-      module _ {tag : ℕ} (e : byteAt b (s .at) ≡ tag) where
+      module _ {tag : ℕ} (e : getD b (s .at) 0 ≡ tag) where
         made : {n : ℕ} {v w : State} {front back : List ℕ} → Gone b u v front → (k : LiesAll b rem n v w) → Gone b w t back → Laid (node tag front (k .trees) back) → Lies b (suc rem) s t
         unfolding bytes size depth
         made {front = front} {back = back} g k h x =
@@ -276,48 +276,48 @@ module _ (b : List ℕ) where
             let y = passed 12 v d in
             made (stays u (omega arith)) (with x (nobody v (omega (arith, y .gone .stands .inside)))) (y .gone) (h _ _ (x .laid) i (y .wide))))
 
-      of-small : byteAt b (s .at) ≡ 104 → smallTuple read b u ≡ done t → Lies b (suc rem) s t
+      of-small : getD b (s .at) 0 ≡ 104 → smallTuple read b u ≡ done t → Lies b (suc rem) s t
       unfolding smallTuple
       of-small e =
           counts 1 _ u (λ n c d.
           let k = of-elems kind.Tuple 0 n (nobody t r) d in
           made e (c .gone) k (stays t r) (lay.small-tuple (record { wide = c .is .wide; is = omega (arith, c .is .is, k .many) }) (k .laid)))
 
-      of-large : byteAt b (s .at) ≡ 105 → largeTuple read b u ≡ done t → Lies b (suc rem) s t
+      of-large : getD b (s .at) 0 ≡ 105 → largeTuple read b u ≡ done t → Lies b (suc rem) s t
       unfolding largeTuple
       of-large e =
           caps cap.elements _ u (λ n c h d.
           let k = of-elems kind.Tuple 0 n (nobody t r) d in
           made e (c .gone) k (stays t r) (lay.large-tuple (record { wide = c .is .wide; is = omega (arith, c .is .is, k .many) }) (omega (arith, k .many)) (k .laid)))
 
-      of-list : byteAt b (s .at) ≡ 108 → list read b u ≡ done t → Lies b (suc rem) s t
+      of-list : getD b (s .at) 0 ≡ 108 → list read b u ≡ done t → Lies b (suc rem) s t
       unfolding list
       of-list e =
           caps cap.elements _ u (λ n c h. through _ _ (λ v d f.
           let k = of-elems kind.List 0 n (entering kind.Tail 0 f (nobody t r)) d in
           made e (c .gone) k (stays t r) (lay.list (c .is) h (k .many) (k .laid))))
 
-      of-map : byteAt b (s .at) ≡ 116 → map read b u ≡ done t → Lies b (suc rem) s t
+      of-map : getD b (s .at) 0 ≡ 116 → map read b u ≡ done t → Lies b (suc rem) s t
       unfolding map
       of-map e =
           caps cap.pairs _ u (λ n c h d.
           let k = of-pairs n r d in
           made e (c .gone) k (stays t r) (lay.map (c .is) h (k .many) (k .laid)))
 
-      of-reference : byteAt b (s .at) ≡ 90 → reference read b u ≡ done t → Lies b (suc rem) s t
+      of-reference : getD b (s .at) 0 ≡ 90 → reference read b u ≡ done t → Lies b (suc rem) s t
       unfolding reference with nobody
       of-reference e =
           counts 2 _ u (λ n c. through _ _ (λ v. an-atom _ (λ x i d.
           let y = passed (4 + 4 * n) v d in
           made e (c .gone) (with x (nobody v (omega (arith, y .gone .stands .inside)))) (y .gone) (lay.reference (c .is) (x .laid) i (y .wide)))))
 
-      of-export : byteAt b (s .at) ≡ 113 → export read b u ≡ done t → Lies b (suc rem) s t
+      of-export : getD b (s .at) 0 ≡ 113 → export read b u ≡ done t → Lies b (suc rem) s t
       unfolding export with nobody
       of-export e =
           through _ _ (λ v. an-atom u (λ x i. through _ _ (λ w. an-atom v (λ y j. a-natural w 255 (λ z k.
           made e (stays u (omega arith)) (with x (with y (with z (nobody t r)))) (stays t r) (lay.export (x .laid) i (y .laid) j (z .laid) k))))))
 
-      of-function : byteAt b (s .at) ≡ 112 → function read b u ≡ done t → Lies b (suc rem) s t
+      of-function : getD b (s .at) 0 ≡ 112 → function read b u ≡ done t → Lies b (suc rem) s t
       unfolding function captured with
       of-function e =
           through _ _ (λ a f. counts 4 _ a (λ n c.
@@ -331,10 +331,10 @@ module _ (b : List ℕ) where
           (lay.function (g .part) (c .part) (g .wide) (record { wide = c .is .wide; is = omega (arith, c .is .is, m .many) })
           (w .laid) h (x .laid) i (y .laid) j (z .laid) k (m .laid))))))))))))
 
-      of-body : body read b (byteAt b (s .at)) u ≡ done t → Lies b (suc rem) s t
+      of-body : body read b (getD b (s .at) 0) u ≡ done t → Lies b (suc rem) s t
       unfolding body
       of-body =
-          let tag = byteAt b (s .at) in
+          let tag = getD b (s .at) 0 in
           picked (eqb tag 104) _ _ (λ x. of-small (eqb-true _ _ x))
           (picked (eqb tag 105) _ _ (λ x. of-large (eqb-true _ _ x))
           (picked (eqb tag 108) _ _ (λ x. of-list (eqb-true _ _ x))

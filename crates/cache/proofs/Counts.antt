@@ -9,14 +9,9 @@ use lib.Arith.{digits-div, digits-mod}
 use lib.Count.{ones}
 use lib.Dec.{eqb}
 use lib.ListN.{getD, replicate}
-use Rattle.cache.specs.Names.{filled, countOf}
+use Rattle.cache.specs.Names.{filled, countOf, filledSlots}
 use Rattle.cache.proofs.Below.{Below}
 use Rattle.cache.proofs.Words.{bit, bit-is, ones-more}
-
--- how many of the first n slots are filled
-unfoldable pub filledSlots : List ℕ → ℕ → ℕ
-filledSlots words zero = 0
-filledSlots words (suc n) = filledSlots words n + cond (filled words n) 1 0
 
 -- the first n slots of word a
 word-slots : (w : List ℕ) (a n : ℕ) → n ≤ 64 → filledSlots w (a * 64 + n) ≡ filledSlots w (a * 64) + ones (getD w a 0 % 2 ^ n)

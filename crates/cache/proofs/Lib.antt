@@ -5,9 +5,5 @@ pub mod Marks
 pub mod Stores
 pub mod Slots
 pub mod Views
-pub mod Storing
-pub mod Reading
-pub mod Leaving
-pub mod Maps
 pub mod Outcomes
 pub mod Examples

@@ -14,7 +14,7 @@ use Rattle.cache.specs.declared.Got.{Got}
 use Rattle.cache.specs.declared.Got.the-variants as got
 use Rattle.cache.proofs.Below.{Below}
 use Rattle.cache.proofs.Marks.{marked-filled, empty-filled}
-use Rattle.cache.proofs.Stores.{stored-same, stored-other}
+use Rattle.cache.proofs.Stores.{stored-length, stored-same, stored-other}
 
 pub put-view : (w s : List ℕ) (i : ℕ) (n : List ℕ) → length w ≡ 4 → length s ≡ storeBytes → Below 256 s → i < 256 → length n ≤ 255
     → (j : ℕ) → view (marked w i) (stored s i n) j ≡ updated (view w s) i n j
@@ -28,6 +28,13 @@ put-view w s i n hw hs below hi hn j = go (eqb i j) refl
     go false e =
         ap (λ (t : Bool). cond t (name (nameIn (stored s i n) j)) nothing) (marked-filled w i j hw hi ∙ ap (λ (t : Bool). t || filled w j) e)
         ∙ ap (λ (l : List ℕ). cond (filled w j) (name l) nothing) (stored-other s i n j below hn (eqb-false i j e))
+
+-- asked for, it is the part of the store that is answered
+pub put-part : (w s : List ℕ) (i : ℕ) (n : List ℕ) → length w ≡ 4 → length s ≡ storeBytes → i < 256 → length n ≤ 255
+    → partOf (stored s i n) (gotAt (marked w i) (stored s i n) i) ≡ n
+unfolding gotAt nameIn
+put-part w s i n hw hs hi hn =
+    rw (eq-eqb (length (stored s i n)) storeBytes (stored-length s i n ∙ hs), marked-filled w i i hw hi, eq-eqb i i refl) (stored-same s i n hs hi hn)
 
 pub empty-view : (s : List ℕ) (j : ℕ) → view (replicate 4 0) s j ≡ nothing
 unfolding view

@@ -1,5 +1,5 @@
 -- The name cache: which slots are filled, what storing a name does, and what a slot answers. Document 01, "Name cache".
-use Prim.Native.Nat.{ℕ, _+_, _*_, _^_, _/_, _%_}
+use Prim.Native.Nat.{ℕ, zero, suc, _+_, _*_, _^_, _/_, _%_}
 use mathlib.Core.List.{List, [], _∷_}
 use mathlib.Core.Bool.{Bool, cond}
 use lib.Bits.{bitOr}
@@ -25,6 +25,11 @@ filled words i = eqb (getD words (i / 64) 0 / 2 ^ (i % 64) % 2) 1
 -- "the count of names is the ones in all four"
 unfoldable pub countOf : List ℕ → ℕ
 countOf words = ones (getD words 0 0) + ones (getD words 1 0) + ones (getD words 2 0) + ones (getD words 3 0)
+
+-- which is how many of the 256 slots are filled: of the first n
+unfoldable pub filledSlots : List ℕ → ℕ → ℕ
+filledSlots words zero = 0
+filledSlots words (suc n) = filledSlots words n + cond (filled words n) 1 0
 
 -- storing a name: its slot's bit; and "one length byte, then up to 255 of name". "Slot bytes past the name stay."
 unfoldable pub marked : List ℕ → ℕ → List ℕ

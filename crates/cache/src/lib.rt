@@ -1,12 +1,10 @@
-// The name cache, and the atom header that fills it.
+// The name cache: what is in it, and how it is asked.
 //
 // A cache is a record of four words, by value, that say which of 256 slots are filled, and 65,536 bytes that the caller lends, 256 to a
-// slot: a length byte, and the name. The header's reader stores each new name when it is complete; a fault behind it keeps it.
+// slot: a length byte, and the name. What fills it is the atom header's reader, in the crate header.
 //
-// Changed from AtomCache and parse_dist_header_with_cache in decoder.rs (michaelklishin/edp-rs, fc07dcb95d),
+// Changed from AtomCache in decoder.rs (michaelklishin/edp-rs, fc07dcb95d),
 // Copyright (C) 2025-2026 Michael S. Klishin and Contributors, Apache-2.0: see NOTICE.
-pub mod header;
-
 ghost use mathlib.Core.Path.{_≡_};
 ghost use Prim.Native.Nat.{_≤_};
 ghost use lib.Count as bits;
@@ -23,18 +21,10 @@ pub struct Cache {
     pub filled: [u64; 4],
 }
 
-// A name's place, in the store or in a header, and its length, or a refusal's number.
+// A name's place in the store and its length, or a refusal's number.
 pub enum Got {
     Name(usize, usize),
     No(u64),
-}
-
-// What a header answers: the number (0 is Done), where the rest begins (0 when refused), the extra, and the cache's record now.
-pub struct HeaderRead {
-    pub number: u64,
-    pub rest: usize,
-    pub extra: u64,
-    pub cache: Cache,
 }
 
 // A cache with no name in it, for any store: no slot's bit is set.

@@ -80,5 +80,5 @@ pub fn rest(number: u64, rest: usize, extra: u64, out: &mut [u8], at: usize) -> 
 
 pub fn path(segments: [Segment; numbers::NESTING], len: usize, out: &mut [u8], at: usize) -> usize {
     let put = print::text(out, at, b" path=");
-    print::path(out, put, segments, len)
+    paths::path(out, put, segments, len)
 }

@@ -11,7 +11,7 @@ pub struct Reached {
 
 // Reads a header, which may bring names.
 pub fn header(b: &[u8], before: Cache, store: &mut [u8], out: &mut [u8], at: usize) -> Reached {
-    let h = cache::header::read(b, before, store);
+    let h = header::read(b, before, store);
     let put = answers::rest(h.number, h.rest, h.extra, out, at);
     let names = h.cache;
     Reached { at: put, names }

@@ -5,18 +5,18 @@ use native.Mathlib.Omega.{arith}
 use mathlib.Core.Path.{_≡_, refl, ap, sym, _∙_}
 use mathlib.Core.Logic.{_↔_}
 use mathlib.Core.List.{List, [], _∷_, _++_}
-use lib.ListN.{length, drop, getD, length-append, length-drop}
+use lib.ListN.{length, take, drop, getD, length-append, length-drop}
 use lib.Pow.{pow-add}
-use lib.Dec.{leb}
+use lib.Dec.{leb, eqb}
 use lib.IntN.{ℤ, pos, negsuc, _-ℤ_}
 use lib.Signed.{mag}
 use mir.Syntax.{w64}
 use mir.Val.{toZ}
-use borrow.Author.Tests.{leb-true, leb-false, le-leb, lt-leb, lt-ltb, le-ltb}
-use mathlib.Core.Bool.{Bool, true, false}
+use borrow.Author.Tests.{leb-true, leb-false, le-leb, lt-leb, lt-ltb, le-ltb, eq-eqb, ne-eqb}
+use mathlib.Core.Bool.{Bool, true, false, cond}
 use lib.Seq.{length-take-le, take-add, drop-drop, drop-cons}
 use Rattle.fields.specs.Be.{be, beAt, signed}
-use Rattle.fields.specs.Field.{holds, fieldAt, integerAt, numberThen, numberAt}
+use Rattle.fields.specs.Field.{holds, fieldAt, integerAt, numberThen, byteThen, numberAt}
 use Rattle.fields.specs.Inner.Field.{known}
 use Rattle.fields.specs.declared.Field.{Field}
 use Rattle.fields.specs.declared.Field.the-variants as field
@@ -38,6 +38,10 @@ be-joined j k b at m n h e f =
 pub be-one : (b : List ℕ) (at : ℕ) → at < length b → beAt 1 b at ≡ getD b at 0
 unfolding be beAt
 be-one b at h = rw (drop-cons b at 0) (omega arith)
+
+-- a part that is written by its ends
+pub part : (l : List ℕ) (p n e : ℕ) → e ≡ p + n → take (e - p) l ≡ take n l
+part l p n e h = let k : e - p ≡ n = omega arith in ap (λ (m : ℕ). take m l) k
 
 -- what it says that the bytes are there, and what a field is then and else
 module _ (k : ℕ) (b : List ℕ) (at : ℕ) where
@@ -102,6 +106,37 @@ module _ (k : ℕ) (b : List ℕ) (at : ℕ) where
         go : (x : Field) → fieldAt k b at ≡ x → P (numberThen missing k b f at)
         go (field.Is n) e = rw (then-is e) (m n)
         go field.Eof e = rw (then-eof e) h
+
+-- a byte, by its place
+module _ {A : Type 0} (missing : A) (b : List ℕ) (f : ℕ → ℕ → A) (at : ℕ) where
+  pub byte-is : at < length b → numberThen missing 1 b f at ≡ f (getD b at 0) (at + 1)
+  byte-is h = then-is 1 b at missing f (sym (field-is 1 b at (is-there 1 b at (omega arith)) (sym (be-one b at h))))
+
+  pub byte-eof : length b ≤ at → numberThen missing 1 b f at ≡ missing
+  byte-eof h = then-eof 1 b at missing f (sym (field-eof 1 b at (is-gone 1 b at (omega arith))))
+
+-- a byte that has to be v
+module _ {A : Type 0} (missing : A) (other : ℕ → A) (v : ℕ) (b : List ℕ) (f : ℕ → A) (at : ℕ) where
+  pub expect-eof : length b ≤ at → byteThen missing other v b f at ≡ missing
+  unfolding byteThen
+  expect-eof h = byte-eof _ b _ at h
+
+  pub expect-is : at < length b → getD b at 0 ≡ v → byteThen missing other v b f at ≡ f (at + 1)
+  unfolding byteThen
+  expect-is h e = byte-is _ b _ at h ∙ rw (eq-eqb (getD b at 0) v e)
+
+  pub expect-other : at < length b → (getD b at 0 ≡ v → ⊥) → byteThen missing other v b f at ≡ other (getD b at 0)
+  unfolding byteThen
+  expect-other h e = byte-is _ b _ at h ∙ rw (ne-eqb (getD b at 0) v e)
+
+  -- what all three have, it has
+  pub by-byte : (P : A → Type 0) → P missing → ((x : ℕ) → P (other x)) → P (f (at + 1)) → P (byteThen missing other v b f at)
+  unfolding byteThen
+  by-byte P h o k = by-then 1 b at _ _ P h (λ x. go x (eqb x v))
+    where
+      go : (x : ℕ) (t : Bool) → P (cond t (f (at + 1)) (other x))
+      go x true = k
+      go x false = o x
 
 module _ (b : List ℕ) (at : ℕ) where
   pub integer-is : holds 4 b at ≡ true → {z : ℤ} → z ≡ signed (beAt 4 b at) → integer.Is z ≡ integerAt b at

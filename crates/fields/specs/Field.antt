@@ -3,7 +3,7 @@ use Prim.Native.Nat.{ℕ, _+_}
 use mathlib.Core.List.{List}
 use mathlib.Core.Bool.{Bool, cond}
 use lib.ListN.{length}
-use lib.Dec.{leb}
+use lib.Dec.{leb, eqb}
 use Rattle.fields.specs.Be.{beAt, signed}
 use Rattle.fields.specs.declared.Field.{Field}
 use Rattle.fields.specs.declared.Field.the-variants as field
@@ -29,6 +29,10 @@ numberThen {A} missing k b f p = go (fieldAt k b p)
     go : Field → A
     go (field.Is n) = f n (p + k)
     go field.Eof = missing
+
+-- a byte at p that has to be v, and what is said of the place behind it; or what is said of another
+unfoldable pub byteThen : {A : Type 0} → A → (ℕ → A) → ℕ → List ℕ → (ℕ → A) → ℕ → A
+byteThen missing other v b f p = numberThen missing 1 b (λ x q. cond (eqb x v) (f q) (other x)) p
 
 -- the number alone; 0 where it is missing, which is for a place where it is known to be there
 abbrev pub numberAt : ℕ → List ℕ → ℕ → ℕ

@@ -7,13 +7,13 @@ use lib.Dec.{eqb, ltb}
 use lib.ListN.{length}
 use borrow.Author.Tests.{lt-ltb, le-ltb, eq-eqb, ne-eqb}
 use Rattle.numbers.specs.Caps as cap
-use Rattle.fields.specs.Field.{fieldAt, numberThen}
+use Rattle.fields.specs.Field.{fieldAt, numberThen, byteThen}
 use Rattle.fields.specs.declared.Field.{Field}
 use Rattle.fields.specs.declared.Field.the-variants as field
 use Rattle.numbers.specs.Numbers as number
 use Rattle.fragments.specs.Fragment as spec
-use Rattle.fragments.specs.Fragment.{must, noFirst, noNext, firstAt, nextAt}
-use Rattle.fragments.specs.Inner.Opening.{missing, numbers, opened}
+use Rattle.fragments.specs.Fragment.{noFirst, noNext, firstAt, nextAt}
+use Rattle.fragments.specs.Inner.Opening.{missing, numbersAt, numbers, opened}
 use Rattle.fragments.specs.declared.FirstFragment.{FirstFragment}
 use Rattle.fragments.specs.declared.Opening.{Opening}
 use Rattle.fragments.specs.declared.Opening.the-variants as opening
@@ -40,35 +40,35 @@ module _ (tag : ℕ) (b : List ℕ) where
   long h = rw (lt-ltb cap.input (length b) h)
 
   module _ (fits : length b ≤ cap.input) where
-    at-version : must opening.No b 0 131 number.Version (must opening.No b 1 tag number.Kind (numbers b)) ≡ opened tag b
+    at-version : byteThen missing (opening.No number.Version) 131 b (byteThen missing (opening.No number.Kind) tag b (numbersAt b)) 0 ≡ opened tag b
     unfolding opened spec.opened numbers
     at-version = rw (le-ltb cap.input (length b) fits)
 
     pub no-version : fieldAt 1 b 0 ≡ field.Eof → missing ≡ opened tag b
-    unfolding must numberThen
+    unfolding byteThen numberThen
     no-version e = rw e at at-version
 
     module _ {v : ℕ} (is-v : fieldAt 1 b 0 ≡ field.Is v) where
       pub version : (v ≡ 131 → ⊥) → opening.No number.Version v ≡ opened tag b
-      unfolding must numberThen
+      unfolding byteThen numberThen
       version h = rw (is-v, ne-eqb v 131 h) at at-version
 
       module _ (right : v ≡ 131) where
-        at-kind : must opening.No b 1 tag number.Kind (numbers b) ≡ opened tag b
-        unfolding must numberThen
+        at-kind : byteThen missing (opening.No number.Kind) tag b (numbersAt b) 1 ≡ opened tag b
+        unfolding byteThen numberThen
         at-kind = rw (is-v, eq-eqb v 131 right) at at-version
 
         pub no-kind : fieldAt 1 b 1 ≡ field.Eof → missing ≡ opened tag b
-        unfolding must numberThen
+        unfolding byteThen numberThen
         no-kind e = rw e at at-kind
 
         module _ {t : ℕ} (is-t : fieldAt 1 b 1 ≡ field.Is t) where
           pub kind : (t ≡ tag → ⊥) → opening.No number.Kind t ≡ opened tag b
-          unfolding must numberThen
+          unfolding byteThen numberThen
           kind h = rw (is-t, ne-eqb t tag h) at at-kind
 
           pub at-numbers : t ≡ tag → numbers b ≡ opened tag b
-          unfolding must numberThen
+          unfolding byteThen numberThen numbers
           at-numbers h = rw (is-t, eq-eqb t tag h) at at-kind
 
 -- what is said of an opening, and that it is what is said at once
@@ -96,17 +96,18 @@ module _ {A : Type 0} (no says : ℕ → ℕ → A) (b : List ℕ) where
       go (field.Is n) e = rw e
       go field.Eof e = rw e
 
-  byte : (p x n : ℕ) (more : Opening) → of (must opening.No b p x n more) ≡ must no b p x n (of more)
-  unfolding must
-  byte p x n more = behind 1 _ p ∙ numbered 1 p (λ y q. tested (eqb y x) more (opening.No n y))
+  byte : (n x : ℕ) (f : ℕ → Opening) (p : ℕ) {g : ℕ → A} → ((q : ℕ) → of (f q) ≡ g q) →
+      of (byteThen missing (opening.No n) x b f p) ≡ byteThen (no number.Eof 0) (no n) x b g p
+  unfolding byteThen
+  byte n x f p h =
+      behind 1 _ p ∙ numbered 1 p (λ y q. tested (eqb y x) (f q) (opening.No n y) ∙ ap (λ (z : A). cond (eqb y x) z (no n y)) (h q))
 
   at-once : (tag : ℕ) → of (opened tag b) ≡ spec.opened no b tag says
   unfolding opened spec.opened
   at-once tag =
       tested (ltb cap.input (length b)) _ _
       ∙ ap (cond (ltb cap.input (length b)) (no number.Long 0))
-      (byte 0 131 number.Version _ ∙ ap (must no b 0 131 number.Version) (byte 1 tag number.Kind _ ∙ ap (must no b 1 tag number.Kind)
-      (behind 8 _ 2 ∙ numbered 8 2 (λ s p. behind 8 _ p))))
+      (byte number.Version 131 _ 0 (λ p. byte number.Kind tag _ p (λ q. behind 8 _ q ∙ numbered 8 q (λ s r. behind 8 _ r))))
 
 -- a first fragment, and a later one
 module _ (b : List ℕ) where

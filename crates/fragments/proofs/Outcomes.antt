@@ -2,14 +2,14 @@
 use Prim.Native.Nat.{ℕ}
 use mathlib.Core.Path.{refl}
 use mathlib.Core.List.{List}
-use lib.Dec.{eqb, ltb}
+use lib.Dec.{ltb}
 use lib.ListN.{length}
 use Rattle.numbers.specs.Caps as cap
 use Rattle.numbers.specs.Numbers as number
 use Rattle.numbers.specs.Numbers.{among, Listed}
 use Rattle.numbers.proofs.Laws.{outcome, Shown, listed-shown, by-test}
-use Rattle.fields.proofs.Laws.{by-then}
-use Rattle.fragments.specs.Fragment.{must, opened, noFirst, noNext, firstAt, nextAt}
+use Rattle.fields.proofs.Laws.{by-then, by-byte}
+use Rattle.fragments.specs.Fragment.{opened, noFirst, noNext, firstAt, nextAt}
 use Rattle.fragments.specs.declared.FirstFragment.{FirstFragment}
 use Rattle.fragments.specs.declared.NextFragment.{NextFragment}
 
@@ -18,15 +18,13 @@ module _ {A : Type 0} (Fine : A → Type 0) (no says : ℕ → ℕ → A) (refus
   unfolding among
   eof = refused number.Eof 0 refl
 
-  of-must : (p x n : ℕ) (more : A) → Listed n → Fine more → Fine (must no b p x n more)
-  unfolding must
-  of-must p x n more l h = by-then 1 b p _ _ Fine eof (λ y. by-test Fine (eqb y x) _ _ h (refused n y l))
-
   of-opened : (tag : ℕ) → Fine (opened no b tag says)
   unfolding opened among
   of-opened tag =
       by-test Fine (ltb cap.input (length b)) _ _ (refused number.Long 0 refl)
-      (of-must 0 131 number.Version _ refl (of-must 1 tag number.Kind _ refl (by-then 8 b 2 _ _ Fine eof (λ s. by-then 8 b 10 _ _ Fine eof (told s)))))
+      (by-byte _ _ 131 b _ 0 Fine eof (λ x. refused number.Version x refl)
+      (by-byte _ _ tag b _ 1 Fine eof (λ x. refused number.Kind x refl)
+      (by-then 8 b 2 _ _ Fine eof (λ s. by-then 8 b 10 _ _ Fine eof (told s)))))
 
 module _ (b : List ℕ) where
   pub first-shown : Shown (outcome (firstAt b .number))

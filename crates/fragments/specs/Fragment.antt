@@ -3,26 +3,23 @@
 use Prim.Native.Nat.{ℕ}
 use mathlib.Core.List.{List}
 use mathlib.Core.Bool.{cond}
-use lib.Dec.{eqb, ltb}
+use lib.Dec.{ltb}
 use lib.ListN.{length}
 use Rattle.numbers.specs.Caps as cap
-use Rattle.fields.specs.Field.{numberThen}
+use Rattle.fields.specs.Field.{numberThen, byteThen}
 use Rattle.numbers.specs.Numbers as number
 use Rattle.fragments.specs.declared.FirstFragment.{FirstFragment}
 use Rattle.fragments.specs.declared.NextFragment.{NextFragment}
 
 module _ {A : Type 0} (no : (number extra : ℕ) → A) (b : List ℕ) where
-  -- one byte at p that has to be x, and what comes behind it; another is refused as n, whose extra is "that byte"
-  unfoldable pub must : (p x n : ℕ) → A → A
-  must p x n more = numberThen (no number.Eof 0) 1 b (λ y q. cond (eqb y x) more (no n y)) p
-
   -- what both begin with: "131, tag .., two 8-byte numbers", and what is said of those. "Long, then reading left to right"; Version:
   -- "fragment's first byte; that byte"; Kind: "not a .. fragment ..; the tag"
   unfoldable pub opened : ℕ → (says : (sequence fragment : ℕ) → A) → A
   opened tag says =
+      let missing = no number.Eof 0 in
       cond (ltb cap.input (length b)) (no number.Long 0)
-      (must 0 131 number.Version (must 1 tag number.Kind
-      (numberThen (no number.Eof 0) 8 b (λ s p. numberThen (no number.Eof 0) 8 b (λ f q. says s f) p) 2)))
+      (byteThen missing (no number.Version) 131 b (byteThen missing (no number.Kind) tag b
+      (numberThen missing 8 b (λ s p. numberThen missing 8 b (λ f q. says s f) p))) 0)
 
 -- "fragment answers give the rest's offset, 0 when refused"; the values of a refused one are 0 too
 abbrev pub noFirst : ℕ → ℕ → FirstFragment

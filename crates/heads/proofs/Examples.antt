@@ -30,11 +30,11 @@ unfolding headAt term rowValue fixed double layout.rowAt row.bytes holds fieldAt
 a-nan = refl
 
 pub all-bits : headAt (77 ∷ 0 ∷ 0 ∷ 0 ∷ 0 ∷ 8 ∷ []) 0 ≡ record { tag = 77; value = value.BitString 6 0 8 }
-unfolding headAt term rowValue fixed layout.rowAt layout.bitsThen layout.bitsByte numberThen row.countThen row.bytes holds fieldAt beAt be
+unfolding headAt term rowValue fixed layout.rowAt layout.bitsThen cap.bitsByte numberThen row.countThen row.bytes holds fieldAt beAt be
 all-bits = refl
 
 pub bits : headAt (77 ∷ 0 ∷ 0 ∷ 0 ∷ 0 ∷ 7 ∷ []) 0 ≡ record { tag = 77; value = no number.Bits 0 }
-unfolding headAt term rowValue layout.rowAt layout.bitsThen layout.bitsByte numberThen row.countThen holds fieldAt beAt be
+unfolding headAt term rowValue layout.rowAt layout.bitsThen cap.bitsByte numberThen row.countThen holds fieldAt beAt be
 bits = refl
 
 -- "nonzero is negative"

@@ -22,17 +22,17 @@ use Rattle.agree.specs.Head.{runAt}
 use Rattle.agree.proofs.HeadIs.{head-is, run-is}
 use Rattle.cache.specs.declared.Cache.{Cache}
 use Rattle.cache.specs.Names.{storeBytes, filled, countOf, gotAt}
-use Rattle.cache.specs.Header.{headerIn}
+use Rattle.cache.specs.declared.Cache.{Cache}
+use Rattle.header.specs.Header.{putAll, headerOver}
 use Rattle.cache.proofs.Examples as cache
+use Rattle.header.proofs.Examples as header
 use Rattle.lookup.specs.Lookup.{Looked}
 use Rattle.lookup.specs.Lookup as key
 use Rattle.lookup.proofs.Examples as lookup
 use Rattle.fragments.specs.Fragment.{firstAt, nextAt}
 use Rattle.fragments.proofs.Examples.{aFirst, aNext, first-whole, first-version, next-whole, next-kind}
-use Rattle.jig.specs.Shown.{Tells}
+use Rattle.jig.specs.Shown.{Tells, nameWords, headerWords, firstWords, nextWords}
 use Rattle.headwords.specs.Words.{partWords}
-use Rattle.jig.specs.Names.{nameWords, headerWords}
-use Rattle.jig.specs.Fragments.{firstWords, nextWords}
 
 -- sill_part: the bytes of a string are no part. A call that hands out every run says 3 and 1
 pub string-part : partWords (runAt (107 ∷ 0 ∷ 1 ∷ 97 ∷ []) 0) ≡ 0 ∷ 0 ∷ []
@@ -71,9 +71,9 @@ module _ (rest : List ℕ) (h : length rest ≡ 65534) where
   no-name = rw (eq-eqb (length (1 ∷ 97 ∷ rest)) storeBytes (omega arith)) refl
 
 -- sill_header: a call that tells the extra before the rest says 13, 69, 0
-pub header-kind : headerWords (headerIn (131 ∷ 69 ∷ []) 65536) ≡ number.Kind ∷ 0 ∷ 69 ∷ []
-unfolding headerIn
-header-kind = ap headerWords (cache.examples .kind)
+pub header-kind : (c : Cache) (s : List ℕ) → length s ≡ storeBytes → headerWords (headerOver (131 ∷ 69 ∷ []) c s .answer) ≡ number.Kind ∷ 0 ∷ 69 ∷ []
+unfolding headerOver putAll
+header-kind c s h = rw (eq-eqb (length s) storeBytes h, header.examples .kind)
 
 -- the lookups: a call that looks for another number finds none; one that looks for the front of a name finds it
 pub number-found : {told old new : List ℕ} → Tells (Looked (131 ∷ 116 ∷ 0 ∷ 0 ∷ 0 ∷ 1 ∷ 98 ∷ 255 ∷ 255 ∷ 255 ∷ 255 ∷ 106 ∷ []) 1 64 (key.number (negsuc 0))) told old new → (getD told 0 0 ≡ 0) × (getD told 2 0 ≡ 11)

@@ -15,9 +15,8 @@ use Rattle.cache.specs.Names.{gotAt}
 use Rattle.cache.specs.declared.Got.{Got}
 use Rattle.cache.specs.declared.Got.the-variants as got
 use Rattle.cache.proofs.Outcomes.{gotOutcome, got-shown}
-use Rattle.jig.specs.Shown.{Tells}
+use Rattle.jig.specs.Shown.{Tells, nameWords}
 use Rattle.headwords.specs.Words.{valueWords, headWords}
-use Rattle.jig.specs.Names.{nameWords}
 
 -- numbers told, the first of which is Done or the number of a refusal
 abbrev pub FirstShown : List ℕ → Type 0

@@ -8,7 +8,7 @@ use Rattle.cache.specs.declared.Got.the-variants as got
 use Rattle.cache.specs.Names as names
 use Rattle.agree.specs.Head.{runAt, part}
 use Rattle.headwords.specs.Words.{partWords}
-use Rattle.jig.specs.Names.{nameWords}
+use Rattle.jig.specs.Shown.{nameWords}
 
 -- the bytes at the place that is told are the part
 pub part-told : (b : List ℕ) (at : ℕ) → let told = partWords (runAt b at) in take (getD told 1 0) (drop (getD told 0 0) b) ≡ part b at

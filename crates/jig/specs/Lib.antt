@@ -1,3 +1,1 @@
 pub mod Shown
-pub mod Names
-pub mod Fragments

@@ -1,4 +1,4 @@
--- How the answer of a read or a lookup is told as numbers. Document 01, "Numbers the jig shows".
+-- How answers are told as numbers. Document 01, "Numbers the jig shows".
 use Prim.Native.Nat.{ℕ, zero, suc, _+_}
 use mathlib.Core.Path.{_≡_}
 use mathlib.Core.List.{List, [], _∷_}
@@ -8,8 +8,13 @@ use Rattle.reading.specs.declared.Answer.{Answer}
 use Rattle.reading.specs.declared.Kind.the-variants.{Tuple}
 use Rattle.reading.specs.declared.Segment.{Segment}
 use Rattle.reading.specs.Answer.{kindNumber}
+use Rattle.cache.specs.declared.Got.{Got}
+use Rattle.cache.specs.declared.Got.the-variants as got
+use Rattle.header.specs.declared.HeaderRead.{HeaderRead}
+use Rattle.fragments.specs.declared.FirstFragment.{FirstFragment}
+use Rattle.fragments.specs.declared.NextFragment.{NextFragment}
 
--- its number, end, offset, extra, terms begun, deepest nesting and how many segments its path has, in this order
+-- of a read or a lookup: its number, end, offset, extra, terms begun, deepest nesting and how many segments its path has, in this order
 abbrev pub answerWords : Answer → List ℕ
 answerWords a = a .number ∷ a .end ∷ a .offset ∷ a .extra ∷ a .begun ∷ a .deepest ∷ a .len ∷ []
 
@@ -28,3 +33,19 @@ pub record Tells (P : Answer → Type 0) (told old new : List ℕ) : Type 0 wher
   pub promised : P answer
   pub shows : told ≡ answerWords answer
   pub traces : new ≡ pathWords answer old
+
+-- of a name: the number, its place in the store, and its length; both 0 where it is refused
+abbrev pub nameWords : Got → List ℕ
+nameWords (got.Name p n) = 0 ∷ p ∷ n ∷ []
+nameWords (got.No number) = number ∷ 0 ∷ 0 ∷ []
+
+-- of a header: the number, where the rest begins, the extra
+abbrev pub headerWords : HeaderRead → List ℕ
+headerWords h = h .number ∷ h .rest ∷ h .extra ∷ []
+
+-- of a first fragment: these, the message's sequence, the fragment's number, and the count of names; of a later one, which has no count
+abbrev pub firstWords : FirstFragment → List ℕ
+firstWords f = f .number ∷ f .rest ∷ f .extra ∷ f .sequence ∷ f .fragment ∷ f .count ∷ []
+
+abbrev pub nextWords : NextFragment → List ℕ
+nextWords f = f .number ∷ f .rest ∷ f .extra ∷ f .sequence ∷ f .fragment ∷ []

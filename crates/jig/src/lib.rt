@@ -18,13 +18,11 @@ ghost use Rattle.agree.specs.Head.{headOf, runAt};
 ghost use Rattle.lookup.specs.Lookup.{Looked};
 ghost use Rattle.lookup.specs.Lookup as key;
 ghost use Rattle.cache.specs.Names.{countOf, gotAt};
-ghost use Rattle.cache.specs.Header.{headerIn, storedAll, markedAll};
+ghost use Rattle.header.specs.Header.{headerOver};
 ghost use Rattle.fragments.specs.Fragment.{firstAt, nextAt};
-ghost use Rattle.jig.specs.Shown.{answerWords, pathWords, Tells};
+ghost use Rattle.jig.specs.Shown.{answerWords, pathWords, Tells, nameWords, headerWords, firstWords, nextWords};
 ghost use Rattle.jig.specs.Shown as spec;
 ghost use Rattle.headwords.specs.Words.{headWords, partWords};
-ghost use Rattle.jig.specs.Names.{nameWords, headerWords};
-ghost use Rattle.jig.specs.Fragments.{firstWords, nextWords};
 
 // Reads a record and writes its tape, as tape::read does. Told are number, end, offset, extra, terms begun, deepest nesting and the
 // segments in the path; of a refusal's path, two words for each segment.
@@ -137,7 +135,7 @@ pub extern "C" fn sill_get(filled: &[u64; 4], store: &[u8], slot: u8, told: &mut
     *told = name(g);
 }
 
-// Reads an atom header, as cache::header::read does. Told are number, where the rest begins, and extra; the names completed are in the
+// Reads an atom header, as header::read does. Told are number, where the rest begins, and extra; the names completed are in the
 // cache, refused or not.
 #[no_mangle]
 pub extern "C" fn sill_header(
@@ -146,12 +144,12 @@ pub extern "C" fn sill_header(
     store: &mut [u8],
     told: &mut [u64; 3],
 )
-    ensures tells { λ _. ⌜ now (told .exit) ≡ headerWords (headerIn (now (b .entry)) (length (now (store .entry)))) ⌝ }
-    ensures marks { λ _. ⌜ now (filled .exit) ≡ markedAll (headerIn (now (b .entry)) (length (now (store .entry))) .steps) (now (filled .entry)) ⌝ }
-    ensures stores { λ _. ⌜ now (store .exit) ≡ storedAll (headerIn (now (b .entry)) (length (now (store .entry))) .steps) (now (store .entry)) ⌝ }
+    ensures tells { λ _. ⌜ now (told .exit) ≡ headerWords (headerOver (now (b .entry)) (record { filled = now (filled .entry) }) (now (store .entry)) .answer) ⌝ }
+    ensures marks { λ _. ⌜ now (filled .exit) ≡ headerOver (now (b .entry)) (record { filled = now (filled .entry) }) (now (store .entry)) .answer .cache .filled ⌝ }
+    ensures stores { λ _. ⌜ now (store .exit) ≡ headerOver (now (b .entry)) (record { filled = now (filled .entry) }) (now (store .entry)) .store ⌝ }
 {
     let words = *filled;
-    let h = cache::header::read(b, Cache { filled: words }, store);
+    let h = header::read(b, Cache { filled: words }, store);
     let c = h.cache;
     let marked = c.filled;
     *filled = marked;

@@ -2,6 +2,7 @@
 -- reading and no place: a tree is a term by its bytes and its children alone.
 use Prim.Native.Nat.{ℕ, _+_, _*_, _≤_}
 use mathlib.Core.Path.{_≡_}
+use mathlib.Core.Bool.{true}
 use mathlib.Core.List.{List, [], _∷_, _++_}
 use lib.ListN.{length, take}
 use Rattle.fields.specs.Be.{be}
@@ -22,12 +23,6 @@ pub record NumberText (l : List ℕ) : Type 0 where
   pub left : ℕ
   pub trimmed : Trimmed l left
   pub literal : Literal (take left l)
-
--- "A bits byte is 1 to 8, and 8 where length is 0"
-pub record BitsByte (n k : ℕ) : Type 0 where
-  pub low : 1 ≤ k
-  pub high : k ≤ 8
-  pub empty : n ≡ 0 → k ≡ 8
 
 -- "An atom child has tag 100, 118 or 119"
 pub data IsAtom : ℕ → Type 0 where
@@ -60,7 +55,7 @@ pub data Leaf : ℕ → List ℕ → Type 0 where
   -- "109: length of 4 bytes, bytes"
   binary : (n s : List ℕ) → Number 4 n (length s) → length s ≤ cap.binary → Leaf 109 (n ++ s)
   -- "77: length of 4 bytes, bits byte, bytes"
-  bit-string : (n : List ℕ) (k : ℕ) (s : List ℕ) → Number 4 n (length s) → length s ≤ cap.binary → BitsByte (length s) k → Leaf 77 (n ++ (k ∷ s))
+  bit-string : (n : List ℕ) (k : ℕ) (s : List ℕ) → Number 4 n (length s) → length s ≤ cap.binary → cap.bitsByte (length s) k ≡ true → Leaf 77 (n ++ (k ∷ s))
   -- "110 / 111: n of 1 / 4 bytes, sign byte (nonzero is negative), n digit bytes, least first"
   small-big : (n : List ℕ) (sign : ℕ) (s : List ℕ) → Number 1 n (length s) → Leaf 110 (n ++ (sign ∷ s))
   large-big : (n : List ℕ) (sign : ℕ) (s : List ℕ) → Number 4 n (length s) → Leaf 111 (n ++ (sign ∷ s))

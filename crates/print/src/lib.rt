@@ -5,8 +5,6 @@
 // as it has. What is printed is held against stored output by the programs' tests.
 use libc::STDERR_FILENO;
 use libc::STDOUT_FILENO;
-use reading::Kind;
-use reading::Segment;
 ghost use Prim.Native.Nat.{_≤_, _+_};
 ghost use lib.ListN.{length};
 
@@ -103,37 +101,5 @@ fn letter(digit: u8) -> u8
         b'0' + digit
     } else {
         b'a' - 10 + digit
-    }
-}
-
-// A path's first `len` segments, joined by /. It holds sixty-four.
-pub fn path(out: &mut [u8], at: usize, segments: [Segment; numbers::NESTING], len: usize) -> usize {
-    let n = least(len, numbers::NESTING);
-    let mut put = at;
-    let mut i = 0;
-    while i < n {
-        let begin = joint(out, put, i);
-        put = segment(out, begin, segments[i]);
-        i += 1;
-    }
-    put
-}
-
-fn joint(out: &mut [u8], at: usize, i: usize) -> usize {
-    if i == 0 {
-        return at;
-    }
-    text(out, at, b"/")
-}
-
-fn segment(out: &mut [u8], at: usize, s: Segment) -> usize {
-    let kind = s.kind;
-    match kind {
-        Kind::Tuple => field(out, at, b"tuple:", s.number),
-        Kind::List => field(out, at, b"list:", s.number),
-        Kind::Tail => field(out, at, b"tail:", s.number),
-        Kind::Key => field(out, at, b"key:", s.number),
-        Kind::Value => field(out, at, b"value:", s.number),
-        Kind::Free => field(out, at, b"free:", s.number),
     }
 }

@@ -4,7 +4,7 @@ use mathlib.Core.List.{List, [], _∷_}
 use mathlib.Core.Bool.{Bool, true, false, cond}
 use Prim.Native.Nat.{ℕ, zero, suc, _+_, _-_, _*_, _≤_, _<_}
 use native.Mathlib.Omega.{arith}
-use lib.ListN.{length}
+use lib.ListN.{length, getD}
 use lib.Dec.{ltb}
 use borrow.Author.Tests.{lt-ltb, le-ltb, ltb-true, ltb-false, eq-eqb, ne-eqb}
 use Rattle.numbers.specs.Caps as cap
@@ -23,7 +23,7 @@ use Rattle.rows.proofs.Laws as row
 use Rattle.reading.specs.declared.Kind.the-variants as kind
 use Rattle.reading.specs.declared.Segment.{Segment}
 use Rattle.reading.specs.Reading.{State, Result, done, no, andThen, moved, reach, begin, refused, fields, pass, sized, counted}
-use Rattle.reading.specs.Terms.{byteAt, elems, pairs, required, isAtom, isNatural, isPid, smallTuple, largeTuple, list, map, pid, reference, export, captured, function, body, term}
+use Rattle.reading.specs.Terms.{elems, pairs, required, isAtom, isNatural, isPid, smallTuple, largeTuple, list, map, pid, reference, export, captured, function, body, term}
 
 pub fields-to : (s : State) {r : Row} {e : ℕ} → r ≡ To e → fields r s ≡ done (moved e s)
 unfolding fields
@@ -154,11 +154,11 @@ unfolding andThen
 after (done s) f g h = h s
 after (no c x s p) f g h = refl
 
-pub is-pid : (b : List ℕ) (p : ℕ) → byteAt b p ≡ 88 → isPid b p ≡ true
+pub is-pid : (b : List ℕ) (p : ℕ) → getD b p 0 ≡ 88 → isPid b p ≡ true
 unfolding isPid
 is-pid b p e = eq-eqb _ _ e
 
-pub no-pid : (b : List ℕ) (p : ℕ) → ¬ (byteAt b p ≡ 88) → isPid b p ≡ false
+pub no-pid : (b : List ℕ) (p : ℕ) → ¬ (getD b p 0 ≡ 88) → isPid b p ≡ false
 unfolding isPid
 no-pid b p e = ne-eqb _ _ e
 
@@ -232,7 +232,7 @@ unfolding term
 term-deep b limit rem s u h e k = rw (e, k, lt-ltb (s .at) (length b) h)
 
 pub term-body : (b : List ℕ) (limit rem : ℕ) (s u : State) → s .at < length b → ¬ (rem ≡ 0) → u ≡ begin (limit - (rem - 1)) s →
-    term b limit rem s ≡ body (term b limit (rem - 1)) b (byteAt b (s .at)) u
+    term b limit rem s ≡ body (term b limit (rem - 1)) b (getD b (s .at) 0) u
 unfolding term
 term-body b limit zero s u h k e = absurd (k refl)
 term-body b limit (suc r) s u h k e =
@@ -240,7 +240,7 @@ term-body b limit (suc r) s u h k e =
     rw (e, d, lt-ltb (s .at) (length b) h)
 
 -- a term without children whose row ends
-pub term-row : (b : List ℕ) (limit rem : ℕ) (s : State) {e : ℕ} → s .at < length b → ¬ (rem ≡ 0) → rowAt b (byteAt b (s .at)) (s .at + 1) ≡ To e →
+pub term-row : (b : List ℕ) (limit rem : ℕ) (s : State) {e : ℕ} → s .at < length b → ¬ (rem ≡ 0) → rowAt b (getD b (s .at) 0) (s .at + 1) ≡ To e →
     term b limit rem s ≡ done (moved e (begin (limit - (rem - 1)) s))
 term-row b limit rem s h k r = term-body b limit rem s _ h k refl ∙ body-to _ _ _ _ r
 

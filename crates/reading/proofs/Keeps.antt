@@ -7,7 +7,7 @@ use mathlib.Core.List.{List, [], _∷_}
 use mathlib.Core.Bool.{Bool, true, false, cond, _||_}
 use borrow.Author.Tests.{ltb-true}
 use lib.Dec.{ltb, eqb}
-use lib.ListN.{length}
+use lib.ListN.{length, getD}
 use Rattle.numbers.specs.Caps as cap
 use Rattle.fields.specs.Field.{fieldAt}
 use Rattle.fields.specs.declared.Field.{Field}
@@ -23,7 +23,7 @@ use Rattle.reading.specs.declared.Kind.{Kind}
 use Rattle.reading.specs.declared.Kind.the-variants as kind
 use Rattle.reading.specs.declared.Segment.{Segment}
 use Rattle.reading.specs.Reading.{State, Result, done, no, andThen, entered, moved, reach, begin, fields, pass, sized, counted}
-use Rattle.reading.specs.Terms.{byteAt, elems, pair, pairs, required, isAtom, isNatural, isPid}
+use Rattle.reading.specs.Terms.{elems, pair, pairs, required, isAtom, isNatural, isPid}
 use Rattle.reading.specs.Terms.{smallTuple, largeTuple, list, map, pid, reference, export, captured, function, body, term}
 use Rattle.rows.proofs.Laws.{by-count, count-in, count-over, count-eof}
 use Rattle.reading.proofs.Families.{sized-is, sized-eof, counted-is, counted-no}
@@ -170,7 +170,7 @@ module _ {b : List ℕ} {limit : ℕ} {P : State → Type 0} {Q : ℕ → ℕ �
   unfolding term
   begun-by left h s p q =
       held-cond (suc left) (ltb (s .at) (length b)) _ _
-      (λ e. of-body (alike left) (term b limit left) (term b limit left) h (byteAt b (s .at)) (begin (limit - left) s) (p (ltb-true (s .at) (length b) e))) q
+      (λ e. of-body (alike left) (term b limit left) (term b limit left) h (getD b (s .at) 0) (begin (limit - left) s) (p (ltb-true (s .at) (length b) e))) q
 
   pub keeps : (left : ℕ) (s : State) → P s → Held P Q left (term b limit left s)
   unfolding term among

@@ -6,7 +6,7 @@ use mathlib.Core.List.{List}
 use mathlib.Core.Bool.{Bool, true, false, cond}
 use borrow.Author.Tests.{ltb-false, le-ltb, ne-eqb}
 use lib.Dec.{ltb}
-use lib.ListN.{length}
+use lib.ListN.{length, getD}
 use Rattle.numbers.specs.Caps as cap
 use Rattle.fields.specs.Field.{fieldAt}
 use Rattle.fields.specs.declared.Field.{Field}
@@ -20,7 +20,7 @@ use Rattle.reading.specs.declared.Cause.the-variants as cause
 use Rattle.reading.specs.declared.Kind.{Kind}
 use Rattle.reading.specs.declared.Start.the-variants as start
 use Rattle.reading.specs.Reading.{State, Result, done, no, andThen, entered, moved, reach, begin, refused, sized, counted}
-use Rattle.reading.specs.Terms.{byteAt, required, body, term}
+use Rattle.reading.specs.Terms.{required, body, term}
 use Rattle.reading.specs.Answer.{answer, starts, started, readAt}
 use Rattle.reading.proofs.Families.{sized-is, sized-eof, counted-is, counted-no}
 use Rattle.reading.proofs.Keeps.{Alike, of-body}
@@ -89,8 +89,8 @@ module _ (b : List ℕ) where
       u = begin (limit - left) s
 
       go : ((t : State) → Same t (term b limit left t) (term b (limit + d) (left + d) t)) → (x : Bool) →
-          Same s (cond x (body (term b limit left) b (byteAt b (s .at)) u) (refused number.Eof (reach s))) (cond x (body (term b (limit + d) (left + d)) b (byteAt b (s .at)) u) (refused number.Eof (reach s)))
-      go kids true z = of-body alike (term b limit left) (term b (limit + d) (left + d)) kids (byteAt b (s .at)) u z
+          Same s (cond x (body (term b limit left) b (getD b (s .at) 0) u) (refused number.Eof (reach s))) (cond x (body (term b (limit + d) (left + d)) b (getD b (s .at) 0) u) (refused number.Eof (reach s)))
+      go kids true z = of-body alike (term b limit left) (term b (limit + d) (left + d)) kids (getD b (s .at) 0) u z
       go kids false z = refl
 
   -- with more levels, and a limit as much larger, the answer is the same

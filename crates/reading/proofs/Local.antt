@@ -7,7 +7,7 @@ use mathlib.Core.List.{List, []}
 use mathlib.Core.Bool.{Bool, true, false, cond}
 use borrow.Author.Tests.{ltb-true, ltb-false, lt-ltb, eqb-true}
 use lib.Dec.{ltb, leb, eqb}
-use lib.ListN.{length, take}
+use lib.ListN.{length, getD, take}
 use Rattle.fields.specs.Be.{beAt}
 use Rattle.fields.specs.Field.{fieldAt, numberAt}
 use Rattle.fields.specs.declared.Field.{Field}
@@ -24,7 +24,7 @@ use Rattle.rows.specs.declared.Row.{Row}
 use Rattle.rows.specs.declared.Row.the-variants.{To, No}
 use Rattle.reading.specs.declared.Kind.{Kind}
 use Rattle.reading.specs.Reading.{State, Result, done, no, andThen, entered, moved, reach, begin, refused, fields, pass, sized, counted}
-use Rattle.reading.specs.Terms.{byteAt, required, isAtom, isNatural, isPid, body, term}
+use Rattle.reading.specs.Terms.{required, isAtom, isNatural, isPid, body, term}
 use Rattle.rows.proofs.Ends.{Agree, agree-less, agree-length, agree-byte, agree-field, Near, bytes-to, near-bytes, near-row}
 use Rattle.reading.proofs.Keeps.{Judge, atom, natural, process, fits, Alike, of-body}
 use Rattle.reading.proofs.Families.{sized-is, sized-eof, counted-is, counted-no}
@@ -117,15 +117,15 @@ module _ (b c : List ℕ) where
       let i : fieldAt k b p ≡ field.Is (beAt k b p) = sym (field-is k b p (is-there k b p (le-trans h l)) refl) in
       number-of k b p i ∙ sym (number-of k c p (agree-field k p (agree-less a h) i))
 
-  module _ (p e : ℕ) (h : p < e) (l : e ≤ length b) (a : Agree b c e) (m : byteAt b p ≡ 97 → p + 1 + 1 ≤ e) (n : byteAt b p ≡ 98 → p + 1 + 4 ≤ e) where
+  module _ (p e : ℕ) (h : p < e) (l : e ≤ length b) (a : Agree b c e) (m : getD b p 0 ≡ 97 → p + 1 + 1 ≤ e) (n : getD b p 0 ≡ 98 → p + 1 + 4 ≤ e) where
     same-natural : (most : ℕ) → isNatural most b p ≡ isNatural most c p
     unfolding isNatural
-    same-natural most = rw (← agree-byte a h) (go (eqb (byteAt b p) 97) (eqb (byteAt b p) 98) refl refl)
+    same-natural most = rw (← agree-byte a h) (go (eqb (getD b p 0) 97) (eqb (getD b p 0) 98) refl refl)
       where
         judge : Bool → Bool → List ℕ → Bool
         judge x y d = cond x (leb (numberAt 1 d (p + 1)) most) (cond y (leb (numberAt 4 d (p + 1)) most) false)
 
-        go : (x y : Bool) → eqb (byteAt b p) 97 ≡ x → eqb (byteAt b p) 98 ≡ y → judge x y b ≡ judge x y c
+        go : (x y : Bool) → eqb (getD b p 0) 97 ≡ x → eqb (getD b p 0) 98 ≡ y → judge x y b ≡ judge x y c
         go true y f g = ap (λ (n : ℕ). leb n most) (same-number 1 (p + 1) e (m (eqb-true _ _ f)) l a)
         go false true f g = ap (λ (n : ℕ). leb n most) (same-number 4 (p + 1) e (n (eqb-true _ _ g)) l a)
         go false false f g = refl
@@ -137,7 +137,7 @@ module _ (b c : List ℕ) where
     same-fits process = rw (agree-byte a h)
 
   -- a term that is only so many bytes
-  plain : (tag k limit left : ℕ) (s t : State) → ((f : State → Result) (u : State) → body f b tag u ≡ pass b k u) → byteAt b (s .at) ≡ tag →
+  plain : (tag k limit left : ℕ) (s t : State) → ((f : State → Result) (u : State) → body f b tag u ≡ pass b k u) → getD b (s .at) 0 ≡ tag →
       term b limit (suc left) s ≡ done t → s .at + 1 + k ≤ t .at
   unfolding term pass fields
   plain tag k limit left s t h e d = go (ltb (s .at) (length b)) refl (row.bytes b k (s .at + 1)) refl
@@ -177,18 +177,18 @@ module _ (b c : List ℕ) where
       u : State
       u = begin (limit - left) s
 
-      step : s .at < length b → Agree b c (s .at + 1) → term c limit (suc left) s ≡ body (term c limit left) c (byteAt b (s .at)) u
+      step : s .at < length b → Agree b c (s .at + 1) → term c limit (suc left) s ≡ body (term c limit left) c (getD b (s .at) 0) u
       step h a =
           let k : s .at < length c = omega (arith, agree-length a (omega arith)) in
-          let e : byteAt b (s .at) ≡ byteAt c (s .at) = agree-byte a (omega arith) in
+          let e : getD b (s .at) 0 ≡ getD c (s .at) 0 = agree-byte a (omega arith) in
           rw (lt-ltb (s .at) (length c) k, e)
 
       go : ((t : State) → Child t (term b limit left t) (term c limit left t)) → (x : Bool) → ltb (s .at) (length b) ≡ x →
-          Beside s (cond x (body (term b limit left) b (byteAt b (s .at)) u) (refused number.Eof (reach s))) (term c limit (suc left) s)
+          Beside s (cond x (body (term b limit left) b (getD b (s .at) 0) u) (refused number.Eof (reach s))) (term c limit (suc left) s)
       go kids true e =
           let h = ltb-true (s .at) (length b) e in
-          later s u (body (term b limit left) b (byteAt b (s .at)) u) (body (term c limit left) c (byteAt b (s .at)) u) (term c limit (suc left) s) (omega arith) (step h)
-          (of-body alike (term b limit left) (term c limit left) kids (byteAt b (s .at)) u (omega arith))
+          later s u (body (term b limit left) b (getD b (s .at) 0) u) (body (term c limit left) c (getD b (s .at) 0) u) (term c limit (suc left) s) (omega arith) (step h)
+          (of-body alike (term b limit left) (term c limit left) kids (getD b (s .at) 0) u (omega arith))
       go kids false e = tt
 
 -- a reading that ends is unchanged by the bytes behind its end

@@ -13,9 +13,6 @@ use Rattle.reading.specs.declared.Kind.{Kind}
 use Rattle.reading.specs.declared.Kind.the-variants as kind
 use Rattle.reading.specs.Reading.{State, Result, done, andThen, entered, reach, begin, refused, fields, pass, sized, counted}
 
-abbrev pub byteAt : List ℕ → ℕ → ℕ
-byteAt b i = getD b i 0
-
 -- n children, the first of which has the index i
 unfoldable pub elems : (State → Result) → Kind → ℕ → ℕ → State → Result
 elems read k i zero s = done s
@@ -35,16 +32,16 @@ required read fits s = andThen (read s) (λ t. cond (fits (s .at)) (done t) (ref
 
 -- "An atom child has tag 100, 118 or 119"
 unfoldable pub isAtom : List ℕ → ℕ → Bool
-isAtom b p = eqb (byteAt b p) 100 || (eqb (byteAt b p) 118 || eqb (byteAt b p) 119)
+isAtom b p = eqb (getD b p 0) 100 || (eqb (getD b p 0) 118 || eqb (getD b p 0) 119)
 
 -- "an integer child 97 or 98", from 0 to `most`: a negative one spells 2 ^ 31 or more, above every `most` (`signed-natural`, fields/proofs/Laws.antt)
 unfoldable pub isNatural : ℕ → List ℕ → ℕ → Bool
 isNatural most b p =
-    cond (eqb (byteAt b p) 97) (leb (numberAt 1 b (p + 1)) most)
-    (cond (eqb (byteAt b p) 98) (leb (numberAt 4 b (p + 1)) most) false)
+    cond (eqb (getD b p 0) 97) (leb (numberAt 1 b (p + 1)) most)
+    (cond (eqb (getD b p 0) 98) (leb (numberAt 4 b (p + 1)) most) false)
 
 unfoldable pub isPid : List ℕ → ℕ → Bool
-isPid b p = eqb (byteAt b p) 88
+isPid b p = eqb (getD b p 0) 88
 
 module _ (read : State → Result) (b : List ℕ) where
   -- "arity of 1 / 4 bytes, children"
@@ -106,5 +103,5 @@ unfoldable pub term : List ℕ → ℕ → ℕ → State → Result
 term b limit zero s = cond (ltb (s .at) (length b)) (refused number.Deep (reach s)) (refused number.Eof (reach s))
 term b limit (suc left) s =
     cond (ltb (s .at) (length b))
-    (body (term b limit left) b (byteAt b (s .at)) (begin (limit - left) s))
+    (body (term b limit left) b (getD b (s .at) 0) (begin (limit - left) s))
     (refused number.Eof (reach s))

@@ -21,7 +21,7 @@ use Rattle.literal.specs.Inner.Parse.{isLiteral}
 use Rattle.numbers.specs.Numbers as number
 use Rattle.numbers.specs.Numbers.{among, Listed}
 use Rattle.rows.specs.Row as row
-use Rattle.rows.specs.Layout.{numberText, bitsByte, bitsThen, digits, rowAt}
+use Rattle.rows.specs.Layout.{numberText, bitsThen, digits, rowAt}
 use Rattle.rows.specs.declared.Row.{Row}
 use Rattle.rows.specs.declared.Row.the-variants.{To, No}
 use Rattle.rows.proofs.Laws.{name-to}
@@ -142,7 +142,7 @@ module _ (b c : List ℕ) where
       (near-cond p (eqb tag 107) _ _ _ _ (near-sized 2 p _ _ near-bytes)
       (near-cond p (eqb tag 109) _ _ _ _ (near-sized 4 p _ _ (λ n e. near-cond e (leb n cap.binary) _ _ _ _ (near-bytes n e) refl))
       (near-cond p (eqb tag 77) _ _ _ _
-      (near-sized 4 p _ _ (λ n e. near-cond e (leb n cap.binary) _ _ _ _ (near-sized 1 e _ _ (λ m f. near-cond f (bitsByte n m) _ _ _ _ (near-bytes n f) refl)) refl))
+      (near-sized 4 p _ _ (λ n e. near-cond e (leb n cap.binary) _ _ _ _ (near-sized 1 e _ _ (λ m f. near-cond f (cap.bitsByte n m) _ _ _ _ (near-bytes n f) refl)) refl))
       (near-cond p (eqb tag 110) _ _ _ _ (near-sized 1 p _ _ near-digits)
       (near-cond p (eqb tag 111) _ _ _ _ (near-sized 4 p _ _ near-digits)
       refl)))))))))))

@@ -9,7 +9,8 @@ use Rattle.utf8.specs.Inner.Find.{decode, starts, charBytes, goodFrom, goodByte
 use Rattle.literal.specs.Inner.Trim.{trimmed}
 use Rattle.literal.specs.Inner.Parse.{isLiteral}
 use Rattle.rows.specs.Row.{bytes, name, countThen}
-use Rattle.rows.specs.Layout.{numberText, bitsByte, bitsThen, rowAt}
+use Rattle.numbers.specs.Caps.{bitsByte}
+use Rattle.rows.specs.Layout.{numberText, bitsThen, rowAt}
 use Rattle.rows.specs.declared.Row.the-variants.{To, No}
 
 -- 77 0 0 0 0 8 is accepted, and 7 bits are not

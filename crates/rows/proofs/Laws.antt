@@ -1,7 +1,7 @@
 -- Laws of the definitions of specs/: one for each way that they can go. Assumes nothing.
 use Prim.Native.Nat.{ℕ, _+_, _-_, _≤_, _<_}
 use native.Mathlib.Omega.{arith}
-use mathlib.Core.Path.{_≡_, refl, ap, sym, _∙_}
+use mathlib.Core.Path.{_≡_, refl, sym, _∙_}
 use mathlib.Core.List.{List}
 use mathlib.Core.Bool.{Bool, true, false, cond}
 use borrow.Author.Tests.{le-leb, lt-leb, leb-true, leb-false, eq-eqb, ne-eqb}
@@ -97,10 +97,6 @@ module _ (most : ℕ) (b : List ℕ) (p : ℕ) where
     pub by-counted : (P : A → Type 0) → ((n : ℕ) → Listed n → P (refused n)) → ((n : ℕ) → P (f n (p + 4))) → P (countThen refused most b f p)
     unfolding countThen among
     by-counted P h m = by-then 4 b p _ _ P (h number.Eof refl) (λ n. by-test P (leb n most) _ _ (m n) (h number.Size refl))
-
--- a part that is written by its ends
-pub part : (l : List ℕ) (p n e : ℕ) → e ≡ p + n → take (e - p) l ≡ take n l
-part l p n e h = let k : e - p ≡ n = omega arith in ap (λ (m : ℕ). take m l) k
 
 -- what a name that is there says
 pub name-to : (b : List ℕ) (n p : ℕ) {e : ℕ} → name b n p ≡ To e → (e ≡ p + n) × (p + n ≤ length b)

@@ -1,8 +1,8 @@
 -- Document 01's term layouts: the rows without children, in its order and words. `p` is the place behind the tag.
 use Prim.Native.Nat.{ℕ}
 use mathlib.Core.List.{List}
-use mathlib.Core.Bool.{Bool, cond, _&&_, _||_}
-use lib.Dec.{eqb, leb}
+use mathlib.Core.Bool.{cond, _||_}
+use lib.Dec.{eqb}
 use lib.ListN.{take, drop}
 use Rattle.literal.specs.Inner.Trim.{trimmed}
 use Rattle.literal.specs.Inner.Parse.{isLiteral}
@@ -18,13 +18,9 @@ numberText b p =
     let text = take 31 (drop p b) in
     andThen (name b 31 p) (λ e. cond (isLiteral (take (trimmed text) text)) (To e) (no number.Literal))
 
--- "A bits byte is 1 to 8, and 8 where length is 0"
-unfoldable pub bitsByte : ℕ → ℕ → Bool
-bitsByte n k = cond (eqb n 0) (eqb k 8) (leb 1 k && leb k 8)
-
 -- "length of 4 bytes, bits byte, bytes"; "length cap first, bits next, bytes last": behind the length
 unfoldable pub bitsThen : List ℕ → ℕ → ℕ → Row
-bitsThen b n p = sized 1 b (λ k q. cond (bitsByte n k) (bytes b n q) (no number.Bits)) p
+bitsThen b n p = sized 1 b (λ k q. cond (cap.bitsByte n k) (bytes b n q) (no number.Bits)) p
 
 -- "sign byte (nonzero is negative), n digit bytes, least first"
 unfoldable pub digits : List ℕ → ℕ → ℕ → Row

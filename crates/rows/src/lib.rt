@@ -171,7 +171,7 @@ fn bits(b: &[u8], n: usize, at: usize) -> Row
 }
 
 fn bits_byte(n: usize, k: u64) -> bool
-    ensures { λ r. ⌜ r ≡ layout.bitsByte n k ⌝ }
+    ensures { λ r. ⌜ r ≡ cap.bitsByte n k ⌝ }
 {
     if n == 0 {
         return k == 8;

@@ -104,7 +104,7 @@ fn refused(a: Answer, out: &mut [u8]) {
     put = line(out, put, b"extra=", a.extra);
     put = print::text(out, put, b"path=");
     let path = a.path;
-    put = print::path(out, put, path, a.len);
+    put = paths::path(out, put, path, a.len);
     put = print::text(out, put, b"\n");
     print::flush(out, put);
 }

@@ -48,7 +48,7 @@ use Rattle.cache.proofs.empty.Reads as cache-empty
 use Rattle.cache.proofs.count.Reads as cache-count
 use Rattle.cache.proofs.get.Reads as cache-get
 use Rattle.cache.proofs.part.Reads as cache-part
-use Rattle.cache.proofs.header.read.Reads as cache-header-read
+use Rattle.header.proofs.read.Reads as header-read
 use Rattle.fragments.proofs.first.Reads as fragments-first
 use Rattle.fragments.proofs.next.Reads as fragments-next
 use Rattle.jig.proofs.sill_read.Reads as jig-sill-read
@@ -130,7 +130,7 @@ pub record Determined : Type 0 where
   pub cache-get : Answer cache-get.Post
   pub cache-part : Part cache-part.Post (λ κ r. r .now)
   -- its third parameter is written to
-  pub cache-header-read : Both cache-header-read.Post (λ κ s. s .1 .1 .0 .now)
+  pub header-read : Both header-read.Post (λ κ s. s .1 .1 .0 .now)
   pub fragments-first : Answer fragments-first.Post
   pub fragments-next : Answer fragments-next.Post
   -- an exported call tells its answer in runs that are lent: here the numbers told, the path's words and the tape
@@ -204,7 +204,7 @@ determined = record {
   cache-count = λ κ a x y s t p q. equal p q;
   cache-get = λ κ a x y s t p q. equal p q;
   cache-part = λ κ a x y s t p q. equal p q;
-  cache-header-read = λ κ a x y s t p q. (equal (p .0) (q .0), equal (p .1) (q .1));
+  header-read = λ κ a x y s t p q. (equal (p .0) (q .0), equal (p .1) (q .1));
   fragments-first = λ κ a x y s t p q. equal p q;
   fragments-next = λ κ a x y s t p q. equal p q;
   jig-sill-read = λ κ a x y s t p q. read-once p q;

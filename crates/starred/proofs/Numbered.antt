@@ -10,30 +10,17 @@ use lib.ListN.{getD}
 use Rattle.numbers.specs.Numbers as number
 use Rattle.numbers.specs.Numbers.{among, refusals, Listed}
 use Rattle.numbers.proofs.Laws.{shown-listed}
-use Rattle.fields.specs.declared.Field.{Field}
-use Rattle.fields.specs.declared.Field.the-variants as field
-use Rattle.fields.specs.declared.Integer.{Integer}
-use Rattle.fields.specs.declared.Integer.the-variants as integer
-use Rattle.rows.specs.declared.Row.{Row}
 use Rattle.rows.specs.declared.Row.the-variants as row
-use Rattle.rows.specs.declared.Counted.{Counted}
-use Rattle.rows.specs.declared.Counted.the-variants as count
 use Rattle.rows.proofs.Outcomes.{row-listed, count-listed, row-shown, name-shown, count-shown}
-use Rattle.reading.specs.declared.Cause.{Cause}
-use Rattle.reading.specs.declared.Start.{Start}
-use Rattle.reading.specs.declared.Start.the-variants as start
-use Rattle.reading.specs.Answer.{numberOf}
 use Rattle.reading.proofs.Outcomes.{cause-listed, read-shown}
-use Rattle.heads.specs.declared.Value.{Value}
-use Rattle.heads.specs.declared.Value.the-variants as value
 use Rattle.heads.proofs.Outcomes.{value-listed, head-shown}
 use Rattle.tape.proofs.Accepts as tape
 use Rattle.lookup.proofs.Meaning as lookup
-use Rattle.cache.specs.declared.Got.{Got}
-use Rattle.cache.specs.declared.Got.the-variants as got
-use Rattle.cache.proofs.Outcomes.{got-listed, got-shown, header-shown}
+use Rattle.cache.proofs.Outcomes.{got-listed, got-shown}
+use Rattle.header.proofs.Outcomes.{header-shown}
 use Rattle.fragments.proofs.Outcomes.{first-shown, next-shown}
 use Rattle.jig.proofs.Outcomes.{FirstShown, answer-told, head-told, name-told}
+use Rattle.starred.specs.Refusals.{fieldBy, integerBy, rowBy, countedBy, startBy, valueBy, gotBy}
 use Rattle.fields.proofs.be_u8.Reads as fields-be-u8
 use Rattle.fields.proofs.be_u16.Reads as fields-be-u16
 use Rattle.fields.proofs.be_u32.Reads as fields-be-u32
@@ -50,7 +37,7 @@ use Rattle.tape.proofs.read.Reads as tape-read
 use Rattle.lookup.proofs.find_name.Reads as lookup-find-name
 use Rattle.lookup.proofs.find_number.Reads as lookup-find-number
 use Rattle.cache.proofs.get.Reads as cache-get
-use Rattle.cache.proofs.header.read.Reads as cache-header-read
+use Rattle.header.proofs.read.Reads as header-read
 use Rattle.fragments.proofs.first.Reads as fragments-first
 use Rattle.fragments.proofs.next.Reads as fragments-next
 use Rattle.jig.proofs.sill_read.Reads as jig-sill-read
@@ -63,13 +50,6 @@ use Rattle.jig.proofs.sill_header.Reads as jig-sill-header
 use Rattle.jig.proofs.sill_first.Reads as jig-sill-first
 use Rattle.jig.proofs.sill_next.Reads as jig-sill-next
 
--- numbers told: there is a first, and it is Done or stands in the list
-pub record First (told : List ℕ) : Type 0 where
-  pub first : ℕ
-  pub rest : List ℕ
-  pub is : told ≡ first ∷ rest
-  pub listed : ¬ (first ≡ 0) → Listed first
-
 -- a promise, of the lifetimes of what is lent, the arguments, the answer, and the parameters at the end
 module _ {L : Type 0} {A R S : L → Type 0} (Promise : (κ : L) → A κ → R κ → S κ → Type 0) where
   -- whatever it is called with: where the answer is a refusal by a number, the number stands in the list
@@ -80,9 +60,9 @@ module _ {L : Type 0} {A R S : L → Type 0} (Promise : (κ : L) → A κ → R 
   abbrev Answers : ((κ : L) → R κ → ℕ) → Type 0
   Answers number = (κ : L) (a : A κ) (r : R κ) (s : S κ) → Promise κ a r s → ¬ (number κ r ≡ 0) → Listed (number κ r)
 
-  -- an exported call tells its answer in a run that is lent: the first number there is such a one
+  -- an exported call tells its answer in a run that is lent: there is a first number there, and it is such a one
   abbrev Tells : ((κ : L) → S κ → List ℕ) → Type 0
-  Tells told = (κ : L) (a : A κ) (r : R κ) (s : S κ) → Promise κ a r s → First (told κ s)
+  Tells told = (κ : L) (a : A κ) (r : R κ) (s : S κ) → Promise κ a r s → (n : ℕ) × ((l : List ℕ) × ((told κ s ≡ n ∷ l) × (¬ (n ≡ 0) → Listed n)))
 
   -- it allows no such answer; nothing that begins so is told
   abbrev Never : ((κ : L) → R κ) → Type 0
@@ -90,28 +70,6 @@ module _ {L : Type 0} {A R S : L → Type 0} (Promise : (κ : L) → A κ → R 
 
   abbrev NeverTells : ((κ : L) → S κ → List ℕ) → ℕ → Type 0
   NeverTells told n = (κ : L) (a : A κ) (r : R κ) (s : S κ) (l : List ℕ) → Promise κ a r s → ¬ (told κ s ≡ n ∷ l)
-
--- of each type of answers, which are refusals, and by which number
-abbrev fieldBy : Field → ℕ → Type 0
-fieldBy r n = (r ≡ field.Eof) × (n ≡ number.Eof)
-
-abbrev integerBy : Integer → ℕ → Type 0
-integerBy r n = (r ≡ integer.Eof) × (n ≡ number.Eof)
-
-abbrev rowBy : Row → ℕ → Type 0
-rowBy r n = (x : ℕ) × (r ≡ row.No n x)
-
-abbrev countedBy : Counted → ℕ → Type 0
-countedBy r n = r ≡ count.No n
-
-abbrev startBy : Start → ℕ → Type 0
-startBy r n = (c : Cause) × ((r ≡ start.No c) × (n ≡ numberOf c))
-
-abbrev valueBy : Value → ℕ → Type 0
-valueBy r n = (o x : ℕ) × (r ≡ value.No n o x)
-
-abbrev gotBy : Got → ℕ → Type 0
-gotBy r n = r ≡ got.No n
 
 pub record Numbered : Type 0 where
   pub fields-be-u8 : Refuses fields-be-u8.Post (λ κ r. fieldBy r)
@@ -130,7 +88,7 @@ pub record Numbered : Type 0 where
   pub lookup-find-name : Answers lookup-find-name.Post (λ κ r. r .number)
   pub lookup-find-number : Answers lookup-find-number.Post (λ κ r. r .number)
   pub cache-get : Refuses cache-get.Post (λ κ r. gotBy r)
-  pub cache-header-read : Answers cache-header-read.Post (λ κ r. r .number)
+  pub header-read : Answers header-read.Post (λ κ r. r .number)
   pub fragments-first : Answers fragments-first.Post (λ κ r. r .number)
   pub fragments-next : Answers fragments-next.Post (λ κ r. r .number)
   pub jig-sill-read : Tells jig-sill-read.Post (λ κ s. s .1 .1 .1 .0 .now)
@@ -143,9 +101,9 @@ pub record Numbered : Type 0 where
   pub jig-sill-first : Tells jig-sill-first.Post (λ κ s. s .1 .0 .now)
   pub jig-sill-next : Tells jig-sill-next.Post (λ κ s. s .1 .0 .now)
 
-begins : (told : List ℕ) → FirstShown told → First told
+begins : (told : List ℕ) → FirstShown told → (n : ℕ) × ((l : List ℕ) × ((told ≡ n ∷ l) × (¬ (n ≡ 0) → Listed n)))
 begins [] h = absurd h
-begins (n ∷ l) h = record { first = n; rest = l; is = refl; listed = shown-listed n h }
+begins (n ∷ l) h = (n, (l, (refl, shown-listed n h)))
 
 eof : {n : ℕ} → n ≡ number.Eof → Listed n
 unfolding among
@@ -169,7 +127,7 @@ numbered = record {
   lookup-find-name = λ κ a r s p. shown-listed _ (lookup.answer-shown p);
   lookup-find-number = λ κ a r s p. shown-listed _ (lookup.answer-shown p);
   cache-get = λ κ a r s p n h. got-listed n (rw p (got-shown _ _ _)) h;
-  cache-header-read = λ κ a r s p. shown-listed _ (rw (p .0) (header-shown _ _));
+  header-read = λ κ a r s p. shown-listed _ (rw (p .0) (header-shown _ _ _));
   fragments-first = λ κ a r s p. shown-listed _ (rw p (first-shown _));
   fragments-next = λ κ a r s p. shown-listed _ (rw p (next-shown _));
   jig-sill-read = λ κ a r s p. begins _ (answer-told (λ x q. tape.answer-shown q) p);
@@ -178,7 +136,7 @@ numbered = record {
   jig-sill-find-number = λ κ a r s p. begins _ (answer-told (λ x q. lookup.answer-shown q) p);
   jig-sill-head = λ κ a r s p. begins _ (rw p (head-told _ _));
   jig-sill-get = λ κ a r s p. begins _ (rw p (name-told _ _ _));
-  jig-sill-header = λ κ a r s p. begins _ (rw (p .0) (header-shown _ _));
+  jig-sill-header = λ κ a r s p. begins _ (rw (p .0) (header-shown _ _ _));
   jig-sill-first = λ κ a r s p. begins _ (rw p (first-shown _));
   jig-sill-next = λ κ a r s p. begins _ (rw p (next-shown _));
 }
@@ -192,6 +150,6 @@ pub no-other : NeverTells jig-sill-head.Post (λ κ s. s .1 .1 .0 .now) 255
 unfolding among
 no-other κ a r s l p e =
     let f = numbered .jig-sill-head κ a r s p in
-    let i : f .first ≡ 255 = ap (λ (t : List ℕ). getD t 0 0) (sym (f .is) ∙ e) in
-    let h = f .listed (λ z. omega arith) in
+    let i : f .0 ≡ 255 = ap (λ (t : List ℕ). getD t 0 0) (sym (f .1 .1 .0) ∙ e) in
+    let h = f .1 .1 .1 (λ z. omega arith) in
     absurd (let z : among 255 refusals ≡ true = rw i at h in let y : _≡_ {A = ℕ} 0 1 = cc in omega arith)

@@ -10,8 +10,9 @@ use borrow.Author.Tests.{le-ltb, eq-eqb}
 use Rattle.fields.specs.Be.{be, beAt, signed}
 use Rattle.fields.specs.Field.{holds, fieldAt}
 use Rattle.rows.specs.Row as row
+use Rattle.numbers.specs.Caps.{bitsByte}
 use Rattle.numbers.specs.Numbers as number
-use Rattle.rows.specs.Layout.{rowAt, bitsThen, bitsByte}
+use Rattle.rows.specs.Layout.{rowAt, bitsThen}
 use Rattle.reading.specs.declared.Answer.{Answer}
 use Rattle.reading.specs.declared.Kind.the-variants as kind
 use Rattle.reading.specs.declared.Segment.{Segment}
@@ -26,12 +27,11 @@ use Rattle.agree.proofs.HeadIs.{head-is}
 use Rattle.tape.specs.Read.{ended, wholeFrom, recordIn, readAll}
 use Rattle.lookup.specs.Lookup.{Looked, number as integer}
 use Rattle.lookup.proofs.Examples.{last-wins}
-use Rattle.cache.specs.Names.{storeBytes}
-use Rattle.cache.specs.Inner.Map.{name, view}
-use Rattle.cache.specs.Header.{Said, headerIn, markedAll, storedAll}
-use Rattle.cache.proofs.Marks.{marked-filled}
-use Rattle.cache.proofs.Stores.{stored-same}
-use Rattle.cache.proofs.Examples as header
+use Rattle.cache.specs.declared.Cache.{Cache}
+use Rattle.cache.specs.Names.{storeBytes, gotAt, partOf}
+use Rattle.header.specs.Header.{Left, putAll, headerOver}
+use Rattle.cache.proofs.Views.{put-part}
+use Rattle.header.proofs.Examples as header
 
 -- a read that is refused, at an offset, with so many terms begun; and one that is Done where there is room for its cells
 abbrev Refused : List ℕ → (limit number offset extra begun deepest : ℕ) → List Segment → Type 0
@@ -41,10 +41,10 @@ abbrev Done : List ℕ → (limit words : ℕ) → Type 0
 Done b limit words = (room : ℕ) → words ≤ room → readAll b limit room .number ≡ 0
 
 -- a header that is Done, with the rest at 7, and leaves "a" in slot 5
-pub record Heads (s : Said) (words store : List ℕ) : Type 0 where
-  pub done : s .number ≡ 0
-  pub rest : s .rest ≡ 7
-  pub slot : view (markedAll (s .steps) words) (storedAll (s .steps) store) 5 ≡ name (97 ∷ [])
+pub record Heads (l : Left) : Type 0 where
+  pub done : l .answer .number ≡ 0
+  pub rest : l .answer .rest ≡ 7
+  pub slot : partOf (l .store) (gotAt (l .answer .cache .filled) (l .store) 5) ≡ 97 ∷ []
 
 pub record Starred : Type 0 where
   -- "empty: Eof at 0. 131: Eof at 1. 130: Tag at 0, terms 0."
@@ -70,23 +70,22 @@ pub record Starred : Type 0 where
   -- "131 116 0 0 0 2 97 1 97 7 98 0 0 0 1 97 8: key 1 is found at 15."
   pub found : (r : Answer) → Looked (131 ∷ 116 ∷ 0 ∷ 0 ∷ 0 ∷ 2 ∷ 97 ∷ 1 ∷ 97 ∷ 7 ∷ 98 ∷ 0 ∷ 0 ∷ 0 ∷ 1 ∷ 97 ∷ 8 ∷ []) 1 64 (integer (pos 1)) r → (r .number ≡ 0) × (r .offset ≡ 15)
   -- "header 131 68 1 8 5 1 97: slot 5 is "a", rest at 7; 131 68 1 9 5 1 97: Eof." Over any cache
-  pub header : (words store : List ℕ) → length words ≡ 4 → length store ≡ storeBytes →
-      Heads (headerIn (131 ∷ 68 ∷ 1 ∷ 8 ∷ 5 ∷ 1 ∷ 97 ∷ []) (length store)) words store
-  pub long-header : headerIn (131 ∷ 68 ∷ 1 ∷ 9 ∷ 5 ∷ 1 ∷ 97 ∷ []) storeBytes .number ≡ number.Eof
+  pub header : (c : Cache) (store : List ℕ) → length (c .filled) ≡ 4 → length store ≡ storeBytes → Heads (headerOver (131 ∷ 68 ∷ 1 ∷ 8 ∷ 5 ∷ 1 ∷ 97 ∷ []) c store)
+  pub long-header : (c : Cache) (store : List ℕ) → length store ≡ storeBytes → headerOver (131 ∷ 68 ∷ 1 ∷ 9 ∷ 5 ∷ 1 ∷ 97 ∷ []) c store .answer .number ≡ number.Eof
 
 minus-one : headAt (131 ∷ 98 ∷ 255 ∷ 255 ∷ 255 ∷ 255 ∷ []) 1 ≡ record { tag = 98; value = value.Integer (negsuc 0) }
 unfolding headAt head.term head.rowValue head.fixed rowAt row.bytes holds fieldAt beAt be signed
 minus-one = refl
 
-one-name : (words store : List ℕ) → length words ≡ 4 → length store ≡ storeBytes → Heads (headerIn (131 ∷ 68 ∷ 1 ∷ 8 ∷ 5 ∷ 1 ∷ 97 ∷ []) (length store)) words store
-unfolding headerIn markedAll storedAll view
-one-name words store h k =
+one-name : (c : Cache) (store : List ℕ) → length (c .filled) ≡ 4 → length store ≡ storeBytes → Heads (headerOver (131 ∷ 68 ∷ 1 ∷ 8 ∷ 5 ∷ 1 ∷ 97 ∷ []) c store)
+unfolding headerOver putAll
+one-name c store h k =
     rw (eq-eqb (length store) storeBytes k, header.examples .one)
-    (record { done = refl; rest = refl; slot = rw (marked-filled words 5 5 h (omega arith), stored-same store 5 (97 ∷ []) k (omega arith) (omega arith)) })
+    (record { done = refl; rest = refl; slot = put-part (c .filled) store 5 (97 ∷ []) h k (omega arith) (omega arith) })
 
-eof : headerIn (131 ∷ 68 ∷ 1 ∷ 9 ∷ 5 ∷ 1 ∷ 97 ∷ []) storeBytes .number ≡ number.Eof
-unfolding headerIn
-eof = rw (header.examples .long)
+eof : (c : Cache) (store : List ℕ) → length store ≡ storeBytes → headerOver (131 ∷ 68 ∷ 1 ∷ 9 ∷ 5 ∷ 1 ∷ 97 ∷ []) c store .answer .number ≡ number.Eof
+unfolding headerOver putAll
+eof c store k = rw (eq-eqb (length store) storeBytes k, header.examples .long)
 
 pub starred : Starred
 unfolding readAll recordIn wholeFrom ended readAt starts answer behind bitsThen bitsByte

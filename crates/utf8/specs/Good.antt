@@ -1,5 +1,4 @@
--- How many leading bytes of a text form whole good characters: the leading bytes spell a row of scalar values, and no scalar value's bytes
--- stand behind them. One number has this and no other (proofs/Meaning.antt, proofs/Unique.antt), and `goodBytes` (Inner/Find.antt) computes it.
+-- How many leading bytes of a text form whole good characters: one number does (proofs/Unique.antt), and `goodBytes` (Inner/Find.antt) computes it.
 use Prim.Native.Nat.{ℕ, _≤_}
 use mathlib.Core.Path.{_≡_}
 use mathlib.Core.List.{List, [], _∷_, _++_}

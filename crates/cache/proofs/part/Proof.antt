@@ -4,7 +4,7 @@ use native.Mathlib.Omega.{arith}
 use mathlib.Core.Path.{refl, ap, sym, _∙_}
 use borrow.Author.Needs.{needs}
 use lib.ListN.{length, drop}
-use Rattle.rows.proofs.Laws.{part}
+use Rattle.fields.proofs.Laws.{part}
 use Rattle.cache.specs.Names.{partOf}
 use Rattle.cache.proofs.Slots.{got-inside}
 use Rattle.cache.proofs.part.Statement.{statement}

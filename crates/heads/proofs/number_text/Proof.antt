@@ -3,7 +3,7 @@ use mathlib.Core.Path.{refl, ap, _∙_}
 use lib.ListN.{drop}
 use borrow.Author.Needs.{needs}
 use Rattle.literal.specs.Inner.Trim.{trimmed}
-use Rattle.rows.proofs.Laws.{part}
+use Rattle.fields.proofs.Laws.{part}
 use Rattle.heads.specs.Inner.Head.{numberText}
 use Rattle.heads.specs.declared.Value.the-variants as value
 use Rattle.heads.proofs.number_text.Statement.{statement}

@@ -2,7 +2,7 @@
 use mathlib.Core.Path.{refl}
 use lib.ListN.{drop}
 use borrow.Author.Needs.{needs}
-use Rattle.rows.proofs.Laws.{part}
+use Rattle.fields.proofs.Laws.{part}
 use Rattle.heads.proofs.run.Statement.{statement}
 use Rattle.heads.proofs.run.Tie as tie
 

@@ -1,7 +1,7 @@
 -- `jig::sill_first`: what fragments::first says, number for number. Assumes nothing.
 use mathlib.Core.Path.{ap}
 use borrow.Author.Needs.{needs}
-use Rattle.jig.specs.Fragments.{firstWords}
+use Rattle.jig.specs.Shown.{firstWords}
 use Rattle.jig.proofs.sill_first.Statement.{statement}
 use Rattle.jig.proofs.sill_first.Tie as tie
 

@@ -1,7 +1,7 @@
 -- `jig::sill_get`: what cache::get says. Assumes nothing.
 use mathlib.Core.Path.{ap, _∙_}
 use borrow.Author.Needs.{needs}
-use Rattle.jig.specs.Names.{nameWords}
+use Rattle.jig.specs.Shown.{nameWords}
 use Rattle.jig.proofs.sill_get.Statement.{statement}
 use Rattle.jig.proofs.sill_get.Tie as tie
 

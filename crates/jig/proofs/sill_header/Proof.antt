@@ -1,8 +1,8 @@
--- `jig::sill_header`: what cache::header::read says, and what it leaves. Assumes nothing.
+-- `jig::sill_header`: what header::read says, and what it leaves. Assumes nothing.
 use mathlib.Core.Path.{ap}
 use mathlib.Core.List.{[], _∷_}
 use borrow.Author.Needs.{needs}
-use Rattle.cache.specs.declared.HeaderRead.{HeaderRead}
+use Rattle.header.specs.declared.HeaderRead.{HeaderRead}
 use Rattle.jig.proofs.sill_header.Statement.{statement}
 use Rattle.jig.proofs.sill_header.Tie as tie
 

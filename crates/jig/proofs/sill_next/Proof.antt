@@ -1,7 +1,7 @@
 -- `jig::sill_next`: what fragments::next says, number for number. Assumes nothing.
 use mathlib.Core.Path.{ap}
 use borrow.Author.Needs.{needs}
-use Rattle.jig.specs.Fragments.{nextWords}
+use Rattle.jig.specs.Shown.{nextWords}
 use Rattle.jig.proofs.sill_next.Statement.{statement}
 use Rattle.jig.proofs.sill_next.Tie as tie
 

@@ -1,6 +1,6 @@
 -- `rows::bits_byte` meets its contract. Assumes nothing.
 use borrow.Author.Tests.{eq-eqb, ne-eqb, le-leb, lt-leb}
-use Rattle.rows.specs.Layout.{bitsByte}
+use Rattle.numbers.specs.Caps.{bitsByte}
 use Rattle.rows.proofs.bits_byte.Statement.{statement}
 use Rattle.rows.proofs.bits_byte.Tie as tie
 

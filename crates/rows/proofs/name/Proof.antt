@@ -4,8 +4,8 @@ use native.Mathlib.Omega.{arith}
 use mathlib.Core.Path.{refl, ap, sym, _∙_}
 use borrow.Author.Needs.{needs}
 use Rattle.utf8.specs.Inner.Find.{goodBytes}
-use Rattle.rows.proofs.Laws.{name-good, name-bad, name-gone, part}
-use Rattle.fields.proofs.Laws.{there}
+use Rattle.rows.proofs.Laws.{name-good, name-bad, name-gone}
+use Rattle.fields.proofs.Laws.{there, part}
 use Rattle.rows.proofs.name.Statement.{statement}
 use Rattle.rows.proofs.name.Tie as tie
 

@@ -7,7 +7,8 @@ use Prim.Native.Nat.{ℕ, _-_, _≤_}
 use native.Mathlib.Omega.{arith}
 use mathlib.Core.Path.{ap, sym, _∙_, subst}
 use borrow.Author.Needs.{needs}
-use Rattle.rows.proofs.Laws.{name-to, part, number-text, no-text}
+use Rattle.fields.proofs.Laws.{part}
+use Rattle.rows.proofs.Laws.{name-to, number-text, no-text}
 use Rattle.literal.proofs.Trims.{trimmed-is}
 use Rattle.literal.specs.Inner.Parse.{isLiteral}
 use Rattle.literal.specs.Inner.Trim.{trimmed}

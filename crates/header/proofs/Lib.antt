@@ -1,0 +1,6 @@
+pub mod Storing
+pub mod Reading
+pub mod Leaving
+pub mod Maps
+pub mod Outcomes
+pub mod Examples
