@@ -6,28 +6,51 @@ ghost use lib.ListN.{length};
 // two letters for a byte.
 pub const LONGEST: usize = 131142;
 
-// Reads once, behind what was kept. Answers where the bytes in the buffer end. Where there is no more to read, a line that was kept gets
-// its end of line.
-pub fn fill(text: &mut [u8], kept: usize) -> usize
-    requires { ⌜ kept < length (now text) ⌝ }
-    ensures { λ r. ⌜ (kept ≤ r) × (r ≤ length (now (text .entry))) ⌝ }
-{
-    let n = more(&mut text[kept..]);
-    if 0 < n {
-        return kept + n;
-    }
-    if kept == 0 {
-        return 0;
-    }
-    text[kept] = b'\n';
-    kept + 1
+// Where the bytes in the buffer end, and whether reading failed.
+pub struct Filled {
+    pub end: usize,
+    pub failed: bool,
 }
 
-fn more(room: &mut [u8]) -> usize
-    ensures { λ r. ⌜ r ≤ length (now (room .entry)) ⌝ }
+// Reads once, behind what was kept. Where there is no more to read, a line that was kept gets its end of line.
+pub fn fill(text: &mut [u8], kept: usize) -> Filled
+    requires { ⌜ kept < length (now text) ⌝ }
+    ensures { λ r. ⌜ (kept ≤ r .end) × (r .end ≤ length (now (text .entry))) ⌝ }
+{
+    let m = more(&mut text[kept..]);
+    if m.failed {
+        return Filled {
+            end: kept,
+            failed: true,
+        };
+    }
+    if 0 < m.end {
+        return Filled {
+            end: kept + m.end,
+            failed: false,
+        };
+    }
+    if kept == 0 {
+        return Filled {
+            end: 0,
+            failed: false,
+        };
+    }
+    text[kept] = b'\n';
+    Filled {
+        end: kept + 1,
+        failed: false,
+    }
+}
+
+fn more(room: &mut [u8]) -> Filled
+    ensures { λ r. ⌜ r .end ≤ length (now (room .entry)) ⌝ }
 {
     let got = libc::read(0, room);
-    io::count(got, room)
+    Filled {
+        end: io::count(got, room),
+        failed: got < 0,
+    }
 }
 
 // Where the line that begins at `from` ends, `end` where it has no end of line before that.

@@ -15,7 +15,6 @@ mod values;
 mod words;
 
 use cache::Cache;
-use names::Reached;
 ghost use mathlib.Core.Path.{_≡_};
 ghost use Prim.Native.Nat.{_≤_, _<_};
 ghost use lib.ListN.{length};
@@ -45,18 +44,33 @@ fn serve(text: &mut [u8], bytes: &mut [u8], store: &mut [u8], run: &mut [u32], o
     let mut kept = 0;
     let mut turns = u64::MAX;
     while 0 < turns {
-        let end = input::fill(text, kept);
+        let filled = input::fill(text, kept);
+        if filled.failed {
+            print::unread();
+            return;
+        }
+        let end = filled.end;
         if end == kept {
             return;
         }
         let gone = lines(text, end, names, bytes, store, run, out);
-        kept = input::keep(text, gone.at, end);
+        if gone.failed {
+            return;
+        }
+        kept = input::keep(text, gone.from, end);
         names = gone.names;
         turns -= 1;
     }
 }
 
-// Answers the lines that end before `end`. Answers where the unfinished one begins.
+// How far the lines of the buffer are answered: where the unfinished one begins, the names then, and whether the output failed.
+struct Gone {
+    from: usize,
+    names: Cache,
+    failed: bool,
+}
+
+// Answers the lines that end before `end`.
 fn lines(
     text: &[u8],
     end: usize,
@@ -65,9 +79,9 @@ fn lines(
     store: &mut [u8],
     run: &mut [u32],
     out: &mut [u8],
-) -> Reached
+) -> Gone
     requires { ⌜ (end ≤ length (now text)) × (65536 ≤ length (now bytes)) ⌝ }
-    ensures { λ r. ⌜ r .at ≤ end ⌝ }
+    ensures { λ r. ⌜ r .from ≤ end ⌝ }
 {
     let mut names = before;
     let mut at = 0;
@@ -81,6 +95,10 @@ fn lines(
         from = next;
         stop = input::line_end(text, from, end);
     }
-    print::flush(out, at);
-    Reached { at: from, names }
+    let failed = print::flush(out, at) == print::FAILED;
+    Gone {
+        from,
+        names,
+        failed,
+    }
 }

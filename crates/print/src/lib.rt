@@ -1,36 +1,75 @@
 // Text on its way to standard output, for the programs that show answers: a lent buffer, and how many bytes wait in it.
 //
-// Each function adds some text and answers how many bytes wait then. What waits is written where the buffer has no room left, and by `flush`;
-// what can't be written is said on standard error. All take any buffer and any number of waiting bytes: more than the buffer has are as many
-// as it has. What is printed is held against stored output by the programs' tests.
+// Each function adds some text and answers how many bytes wait then. What waits is written where the buffer has no room left, and by `flush`.
+// All take any buffer and any number of waiting bytes: more than the buffer has are as many as it has. What is printed is held against stored
+// output by the programs' tests.
+//
+// A failure is final. What can't be written is said once, and FAILED is answered instead of a number of bytes: who gets it adds nothing, writes
+// nothing and answers it again.
 use libc::STDERR_FILENO;
 use libc::STDOUT_FILENO;
 ghost use Prim.Native.Nat.{_≤_, _+_};
 ghost use lib.ListN.{length};
 
+// The output has failed.
+pub const FAILED: usize = usize::MAX;
+
+// Where a program says how it ended, for the script that runs it: the language has no exit status.
+const STATUS_FILENO: i32 = 3;
+
 pub fn text(out: &mut [u8], at: usize, text: &[u8]) -> usize {
+    if at == FAILED {
+        return FAILED;
+    }
     let from = least(at, out.len());
     if text.len() <= out.len() - from {
         return copy(out, from, text);
     }
-    write(&out[..from]);
+    if !write(&out[..from]) {
+        return FAILED;
+    }
     if text.len() <= out.len() {
         return copy(out, 0, text);
     }
-    write(text);
+    if !write(text) {
+        return FAILED;
+    }
     0
 }
 
-// Writes what waits.
-pub fn flush(out: &[u8], at: usize) {
+// Writes what waits. Answers that nothing waits any more, or FAILED.
+pub fn flush(out: &[u8], at: usize) -> usize {
+    if at == FAILED {
+        return FAILED;
+    }
     let n = least(at, out.len());
-    write(&out[..n]);
+    if !write(&out[..n]) {
+        return FAILED;
+    }
+    0
 }
 
-fn write(text: &[u8]) {
-    if !io::write_all(STDOUT_FILENO, text) {
-        io::write_all(STDERR_FILENO, b"the output could not be written\n");
+fn write(text: &[u8]) -> bool {
+    if io::write_all(STDOUT_FILENO, text) {
+        return true;
     }
+    ends(b"the output could not be written\n", b"3");
+    false
+}
+
+// What a program says that can't read its input.
+pub fn unread() {
+    ends(b"standard input could not be read\n", b"2");
+}
+
+// What a program says whose record is refused.
+pub fn refused() {
+    io::write_all(STATUS_FILENO, b"1");
+}
+
+fn ends(text: &[u8], status: &[u8]) {
+    io::write_all(STDERR_FILENO, text);
+    io::write_all(STATUS_FILENO, status);
 }
 
 fn copy(out: &mut [u8], at: usize, text: &[u8]) -> usize

@@ -1,8 +1,7 @@
 // showterm: what the reader says of the record on standard input, exactly as document 01 prints it.
 //
 // At most 65,536 bytes are read, with a nesting limit of 64 and room for 3,276 cells. Longer input is answered as number 10. Input that
-// can't be read to its end has no answer: that is said on standard error.
-use libc::STDERR_FILENO;
+// can't be read to its end has no answer: that is said on standard error, as is an output that fails. ./showterm ends with a status then.
 use reading::Answer;
 use reading::Cause;
 ghost use Prim.Native.Nat.{_≤_, _*_, _+_};
@@ -21,7 +20,7 @@ fn main() {
     let mut out = io::large_buffer();
     let n = fill(&mut input);
     if n == FAILED {
-        io::write_all(STDERR_FILENO, b"standard input could not be read\n");
+        print::unread();
         return;
     }
     if RECORD < n {
@@ -106,7 +105,9 @@ fn refused(a: Answer, out: &mut [u8]) {
     let path = a.path;
     put = paths::path(out, put, path, a.len);
     put = print::text(out, put, b"\n");
-    print::flush(out, put);
+    if print::flush(out, put) != print::FAILED {
+        print::refused();
+    }
 }
 
 fn counts(number: u64, begun: usize, deepest: usize, out: &mut [u8]) -> usize {

@@ -1,16 +1,16 @@
 -- `calls::lines` meets its contract: the buffers keep their lengths, and each line lies behind the one before it. The measure is the bytes behind the line.
 use mathlib.Core.Path.{_≡_}
 use Prim.Native.Nat.{_≤_, _-_}
-use native.Mathlib.Omega.{arith}
 use lib.ListN.{length}
+use borrow.Author.Needs.{needs}
 use Rattle.calls.proofs.lines.Statement.{statement}
 use Rattle.calls.proofs.lines.Tie as tie
 
 abbrev Inv-loop : tie.InvT-loop
-Inv-loop text end bytes₀ store₀ run₀ out₀ names₀ at₀ from₀ stop₀ t14 bytes store run out names at from stop = (from ≤ stop) × ((stop ≤ end) × ((length bytes ≡ length bytes₀) × ((length store ≡ length store₀) × ((length run ≡ length run₀) × (length out ≡ length out₀)))))
+Inv-loop text end bytes₀ store₀ run₀ out₀ names₀ at₀ from₀ stop₀ t15 bytes store run out names at from stop = (from ≤ stop) × ((stop ≤ end) × ((length bytes ≡ length bytes₀) × ((length store ≡ length store₀) × ((length run ≡ length run₀) × (length out ≡ length out₀)))))
 
 abbrev μ-loop : tie.MeasureT-loop
-μ-loop text end bytes₀ store₀ run₀ out₀ names₀ at₀ from₀ stop₀ t14 bytes store run out names at from stop = end - stop
+μ-loop text end bytes₀ store₀ run₀ out₀ names₀ at₀ from₀ stop₀ t15 bytes store run out names at from stop = end - stop
 
 pub lines-spec : {M : Type 1} → statement M
 lines-spec =
@@ -18,21 +18,21 @@ lines-spec =
     (tie.spec
     Inv-loop
     μ-loop
-    (λ c κs. omega arith)
-    (λ c. omega arith)
-    (λ c. omega arith)
-    (λ c. omega arith)
-    (λ c. omega arith)
-    (λ c. omega arith)
-    (λ c κs. omega arith)
-    (λ c. omega arith)
-    (λ c κs. omega arith)
-    (λ c κs. omega arith)
-    (λ c. omega arith)
-    (λ c. omega arith)
-    (λ c κs. omega arith)
-    (λ c. omega arith)
-    (λ c. omega arith)
-    (λ c. omega arith)
-    (λ c. omega arith)
-    (λ c. omega arith))
+    (λ c κs. search needs)
+    (λ c. search needs)
+    (λ c. search needs)
+    (λ c. search needs)
+    (λ c. search needs)
+    (λ c. search needs)
+    (λ c κs. search needs)
+    (λ c. search needs)
+    (λ c κs. search needs)
+    (λ c κs. search needs)
+    (λ c. search needs)
+    (λ c. search needs)
+    (λ c κs. search needs)
+    (λ c. search needs)
+    (λ c. search needs)
+    (λ c. search needs)
+    (λ c. search needs)
+    (λ c. search needs))

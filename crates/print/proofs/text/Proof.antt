@@ -1,7 +1,7 @@
 -- `print::text` is safe: what waits is a part of the buffer, and what is copied has room in it.
 use native.Mathlib.Omega.{arith}
-use borrow.Author.Needs.{needs}
 use lib.ListN.{length-take}
+use borrow.Author.Needs.{needs}
 use Rattle.print.proofs.text.Statement.{statement}
 use Rattle.print.proofs.text.Tie as tie
 
@@ -12,6 +12,7 @@ pub text-spec : {M : Type 1} → statement M
 text-spec =
     tie.close
     (tie.spec
+    (λ c. search needs)
     (λ c κs. search needs)
     (λ c. search needs)
     (λ c κs. search needs)
@@ -20,9 +21,13 @@ text-spec =
     (λ c. search needs)
     slice-aggregate-write
     (λ c κs. search needs)
+    (λ c. search needs)
+    (λ c. search needs)
     (λ c κs. search needs)
     (λ c. search needs)
     (λ c. search needs)
     (λ c κs. search needs)
+    (λ c. search needs)
+    (λ c. search needs)
     (λ c. search needs)
     (λ c. search needs))

@@ -1,7 +1,7 @@
 -- `showterm::main` is safe: what was read is a part of the buffer.
 use native.Mathlib.Omega.{arith}
-use borrow.Author.Needs.{needs}
 use lib.ListN.{length-take}
+use borrow.Author.Needs.{needs}
 use Rattle.showterm.proofs.main.Statement.{statement}
 use Rattle.showterm.proofs.main.Tie as tie
 
@@ -15,7 +15,6 @@ main-spec =
     (λ c κs. search needs)
     (λ c. search needs)
     (λ c κs. search needs)
-    (λ c. search needs)
     (λ c κs. search needs)
     (λ c. search needs)
     (λ c κs. search needs)
