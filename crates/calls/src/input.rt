@@ -18,22 +18,10 @@ pub fn fill(text: &mut [u8], kept: usize) -> Filled
     ensures { λ r. ⌜ (kept ≤ r .end) × (r .end ≤ length (now (text .entry))) ⌝ }
 {
     let m = more(&mut text[kept..]);
-    if m.failed {
-        return Filled {
-            end: kept,
-            failed: true,
-        };
-    }
-    if 0 < m.end {
+    if m.failed || 0 < m.end || kept == 0 {
         return Filled {
             end: kept + m.end,
-            failed: false,
-        };
-    }
-    if kept == 0 {
-        return Filled {
-            end: 0,
-            failed: false,
+            failed: m.failed,
         };
     }
     text[kept] = b'\n';

@@ -1,28 +1,25 @@
 -- What a header does to a cache, as a map: the new names are put into it in order, up to the first that is refused, and nothing else is
 -- changed. Assumes nothing.
-use Prim.Native.Nat.{ℕ, zero, suc, _+_, _/_, _≤_, _<_}
+use Prim.Native.Nat.{ℕ, zero, suc, _+_, _≤_, _<_}
 use native.Mathlib.Omega.{arith}
 use mathlib.Core.Path.{_≡_, refl, ap, _∙_}
 use mathlib.Core.Bool.{Bool, true, false, cond}
 use mathlib.Core.List.{List, [], _∷_}
 use borrow.Author.Tests.{eq-eqb, leb-true}
-use lib.Dec.{eqb, leb, ltb}
+use lib.Dec.{eqb, leb}
 use lib.ListN.{length, take, drop, length-drop}
 use lib.Seq.{getD-drop, length-take-le}
-use Rattle.numbers.specs.Caps as cap
-use Rattle.fields.specs.Field.{holds}
 use Rattle.fields.proofs.Inverse.{is-below}
-use Rattle.fields.proofs.Laws.{by-then, by-byte}
-use Rattle.numbers.proofs.Laws.{by-test}
 use Rattle.cache.specs.declared.Cache.{Cache}
 use Rattle.header.specs.declared.Reference.{Reference}
 use Rattle.header.specs.declared.Reference.the-variants as ref
 use Rattle.cache.specs.Names.{storeBytes, marked, stored}
 use Rattle.cache.specs.Inner.Map.{Held, name, view, updated}
-use Rattle.header.specs.Header.{Said, isNew, longBit, referenceAt, behind, references, flagged, headerOf, Left, putAll, headerOver}
+use Rattle.header.specs.Header.{referenceAt, references, headerOf, Left, putAll, headerOver}
 use Rattle.cache.proofs.Below.{Below}
 use Rattle.cache.proofs.Marks.{marked-length}
 use Rattle.cache.proofs.Stores.{stored-length, stored-below}
+use Rattle.header.proofs.Every.{All, none, more, every}
 use Rattle.header.proofs.Reading.{found}
 use Rattle.cache.proofs.Views.{put-view}
 
@@ -70,10 +67,6 @@ module _ (b : List ℕ) where
     new : {slot at n : ℕ} → slot < 256 → at + n ≤ length b → Fits (ref.New slot at n)
     refusal : {n x : ℕ} → Fits (ref.No n x)
 
-  pub data AllFit : List Reference → Type 0 where
-    none : AllFit []
-    more : {r : Reference} {rs : List Reference} → Fits r → AllFit rs → AllFit (r ∷ rs)
-
   same-map : (rs : List Reference) (f g : ℕ → Held) → ((j : ℕ) → f j ≡ g j) → (j : ℕ) → updatedAll rs f j ≡ updatedAll rs g j
   unfolding updatedAll updated
   same-map [] f g h j = h j
@@ -84,7 +77,7 @@ module _ (b : List ℕ) where
   same-map (ref.No n x ∷ rs) f g h j = h j
 
   module _ (low : Below 256 b) (rest : ℕ) where
-    pub put-all : (rs : List Reference) → AllFit rs → (c : Cache) (s : List ℕ) → length (c .filled) ≡ 4 → length s ≡ storeBytes → Below 256 s → (j : ℕ) →
+    pub put-all : (rs : List Reference) → All Fits rs → (c : Cache) (s : List ℕ) → length (c .filled) ≡ 4 → length s ≡ storeBytes → Below 256 s → (j : ℕ) →
         held (putAll b rest rs c s .answer .cache) (putAll b rest rs c s .store) j ≡ updatedAll rs (held c s) j
     unfolding updatedAll putAll
     put-all [] none c s hw hs below j = refl
@@ -99,33 +92,16 @@ module _ (b : List ℕ) where
     put-all (ref.No n x ∷ rs) f c s hw hs below j = refl
 
   -- the references of a header fit, where it is bytes
-  module _ (low : Below 256 b) where
-    abbrev Good : Said → Type 0
-    Good h = AllFit (h .references)
+  fits-at : Below 256 b → (new : Bool) (wide p : ℕ) → Fits (referenceAt b new wide p)
+  fits-at low t wide p = go (referenceAt b t wide p) refl
+    where
+      go : (r : Reference) → referenceAt b t wide p ≡ r → Fits r
+      go (ref.Old slot) e = old
+      go (ref.New slot at n) e = let f = found b t wide p e in new (is-below 1 b p low (f .first)) (f .inside)
+      go (ref.No n x) e = refusal
 
-    good-behind : (new : Bool) (wide p : ℕ) (next : ℕ → Said) (r : Reference) → referenceAt b new wide p ≡ r → ((q : ℕ) → Good (next q)) → Good (behind p next r)
-    unfolding behind
-    good-behind t wide p next (ref.Old slot) e k = more old (k (p + 1))
-    good-behind t wide p next (ref.New slot at n) e k = let f = found b t wide p e in more (new (is-below 1 b p low (f .first)) (f .inside)) (k (at + n))
-    good-behind t wide p next (ref.No n x) e k = more refusal none
-
-    good-references : (f wide i k p : ℕ) → Good (references b f wide i k p)
-    unfolding references
-    good-references f wide i zero p = none
-    good-references f wide i (suc k) p = good-behind (isNew b f i) wide p _ (referenceAt b (isNew b f i) wide p) refl (good-references f wide (i + 1) k)
-
-    refusal-fits : {n x : ℕ} → Good (record { references = ref.No n x ∷ []; rest = 0 })
-    refusal-fits = more refusal none
-
-    pub all-fit : Good (headerOf b)
-    unfolding headerOf flagged
-    all-fit =
-        by-test Good (ltb cap.input (length b)) _ _ refusal-fits
-        (by-byte _ _ 131 b _ 0 Good refusal-fits (λ x. refusal-fits)
-        (by-byte _ _ 68 b _ 1 Good refusal-fits (λ x. refusal-fits)
-        (by-then 1 b 2 _ _ Good refusal-fits (λ n.
-        by-test Good (eqb n 0) _ _ none
-        (by-test Good (holds (n / 2 + 1) b 3) _ _ (good-references 3 (cond (longBit b 3 n) 2 1) 0 n (3 + (n / 2 + 1))) refusal-fits)))))
+  all-fit : Below 256 b → All Fits (headerOf b .references)
+  all-fit low = every b Fits (fits-at low) (λ n x h. refusal)
 
 -- so the whole: a header over a cache, as a map
 pub header-view : (b : List ℕ) → Below 256 b → (c : Cache) (s : List ℕ) → length (c .filled) ≡ 4 → length s ≡ storeBytes → Below 256 s → (j : ℕ) →

@@ -6,7 +6,7 @@ use Prim.Native.Nat.{ℕ, zero, suc, _+_, _-_, _*_, _≤_, _<_}
 use native.Mathlib.Omega.{arith}
 use lib.ListN.{length, getD}
 use lib.Dec.{ltb}
-use borrow.Author.Tests.{lt-ltb, le-ltb, ltb-true, ltb-false, eq-eqb, ne-eqb}
+use borrow.Author.Tests.{lt-ltb, le-ltb, ltb-true, ltb-false, eq-eqb}
 use Rattle.numbers.specs.Caps as cap
 use Rattle.fields.specs.Field.{holds, fieldAt}
 use Rattle.fields.specs.declared.Field.the-variants as field
@@ -157,10 +157,6 @@ after (no c x s p) f g h = refl
 pub is-pid : (b : List ℕ) (p : ℕ) → getD b p 0 ≡ 88 → isPid b p ≡ true
 unfolding isPid
 is-pid b p e = eq-eqb _ _ e
-
-pub no-pid : (b : List ℕ) (p : ℕ) → ¬ (getD b p 0 ≡ 88) → isPid b p ≡ false
-unfolding isPid
-no-pid b p e = ne-eqb _ _ e
 
 -- a tag is none of those that a match has asked for, the last of which stands first
 abbrev Others : ℕ → List ℕ → Type 0

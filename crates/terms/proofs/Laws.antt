@@ -118,9 +118,6 @@ wider {g} {seen} {fault} {len} {r} {room} {o} h t = record { shown = more g (t .
     more (suc e) t = t
     more zero t = record { at = t .at; same = t .same; few = omega arith; long = t .long }
 
-pub stops-wider : {seen fault : List ℕ} {r room : ℕ} {o : Result} → r ≤ room → Stops seen fault r o → Stops seen fault room o
-stops-wider h t = record { at = t .at; same = t .same; few = omega arith; long = t .long }
-
 pub ends : (e : ℕ) (seen fault : List ℕ) (len : ℕ) → 1 ≤ e → e ≤ len → getD seen 1 0 ≤ e → length seen ≡ 3 → length fault ≡ 67 → GoesOn e seen fault len (done (place e seen))
 ends e seen fault len l h k m n = record { same = refl; some = l; inside = h; counted = k; three = m; long = n }
 

@@ -1,5 +1,5 @@
 -- What callers of `good` and `ascii` use of their promises. Assumes nothing.
-use Prim.Native.Nat.{ℕ, _+_, _≤_}
+use Prim.Native.Nat.{ℕ, _+_}
 use native.Mathlib.Omega.{arith}
 use mathlib.Core.Path.{_≡_}
 use mathlib.Core.List.{List}
@@ -10,9 +10,6 @@ use Rattle.utf8.specs.Inner.Check.{Plain}
 use Rattle.utf8.proofs.Runs.{none-yet, plain-to, at-end, good-to}
 use Rattle.utf8.proofs.Meaning.{good-bytes}
 use Rattle.utf8.proofs.Unique.{good-unique}
-
-pub good-within : (s : List ℕ) → goodBytes s ≤ length s
-good-within s = good-bytes s .within
 
 -- a text that is all ASCII is good
 pub ascii-good : {b : List ℕ} {at n : ℕ} → Plain b at (at + n) → goodBytes (take n (drop at b)) ≡ n
