@@ -1,9 +1,12 @@
-// The benchmark's program, which ./speed builds and runs: our reader, the Rust's, C's ei and the plain one (bench/plain.c) in one process.
+// The benchmark's program, which ./speed builds and runs: our reader, the Rust's, C's ei and the plain one (bench/plain.c) in one process, and
+// our writer with ei's.
 //
-//   speed check < REQUESTS          sees that ours and the plain reader answer alike on these, on every input, and on all of them damaged
-//   speed rows | lengths | floors   the names of the rows of a table, and for each the call that is timed
-//   speed times ROW                 its bytes, its terms and nanoseconds: ours, ei's, the Rust's, the plain one's; 0 where there is none
-//   speed once ROW K                the K-th of them once, for a tool that counts instructions
+//   speed check < REQUESTS          sees that ours and the plain reader answer alike on these, on every input, and on all of them damaged; and
+//                                   that ours and ei's writers write the same, which is read back as the row that it was written from
+//   speed rows | lengths | floors | writing
+//                                   the names of the rows of a table, and for each the call that is timed
+//   speed times TABLE ROW           its bytes, its terms and nanoseconds: ours, ei's, the Rust's, the plain one's; 0 where there is none
+//   speed once TABLE ROW K          the K-th of them once, for a tool that counts instructions
 //
 // A time is the best of many rounds in which all take turns, each after some calls that aren't timed.
 #include <stdio.h>
@@ -13,13 +16,15 @@
 #include "../jig/sillthread.h"
 #include "plain.h"
 #include "records.h"
+#include "rows.h"
 
 enum { LIMIT = SILL_DEEPEST, MOST = SILL_LONGEST, WORDS = SILL_CELL << 22 };
 
-static uint8_t bytes[MOST], store[SILL_STORE_BYTES];
+static uint8_t bytes[MOST], store[SILL_STORE_BYTES], written[MOST];
 static size_t len, terms;
 static uint32_t tape[WORDS];
 static uint64_t told[SILL_HEAD_TOLD], path[SILL_PATH], filled[SILL_FILLED];
+static struct items items;
 
 // What is timed, each once. Answers whether all went well.
 static int our_read(void) {
@@ -86,6 +91,11 @@ static int our_text(void) { return sill_utf8(bytes, len) == len; }
 
 static int their_text(void) { return plain_utf8(bytes, len) == len; }
 
+static int our_write(void) {
+    sill_write((const uint64_t *)items.item, SILL_ITEM * items.n, items.text, items.texts, written, MOST, told);
+    return told[0] == SILL_DONE && told[1] == len;
+}
+
 // What no reader with a tape does without, in C: going over a list of small integers once, with a cell for each; and following the lengths
 // of a list of binaries twice, since the tape is written only where the whole is good.
 static int cells_written(void) {
@@ -105,16 +115,16 @@ static int lengths_followed(void) {
 }
 
 #ifdef EI
-int ei_decode_version(const char *b, int *index, int *version);
-int ei_skip_term(const char *b, int *index);
-
 static int ei_read(void) {
     const char *b = (const char *)bytes;
     int index = 0, version;
     return ei_decode_version(b, &index, &version) == 0 && ei_skip_term(b, &index) == 0 && (size_t)index == len;
 }
+
+static int ei_write(void) { return ei_written(&items, written) == len; }
 #else
 #define ei_read NULL
+#define ei_write NULL
 #endif
 
 #ifdef RUST
@@ -171,13 +181,24 @@ static const struct row floors[] = {
     {"binaries:_lengths_twice", "-", binaries, 1 << 20, {lengths_followed, ei_read, NULL, NULL}},
 };
 
+// What is read to make these is written again; their terms are the row's items.
+static const struct row writing[] = {
+    {"1_KiB_record", "sill_write", record, 1 << 10, {our_write, ei_write, NULL, NULL}},
+    {"64_KiB_record", "sill_write", record, 1 << 16, {our_write, ei_write, NULL, NULL}},
+    {"1_MiB_of_small_integers", "sill_write", integers, 1 << 20, {our_write, ei_write, NULL, NULL}},
+    {"1_MiB_of_binaries", "sill_write", binaries, 1 << 20, {our_write, ei_write, NULL, NULL}},
+    {"64_KiB_of_names_not_ASCII", "sill_write", foreign_atoms, 1 << 16, {our_write, ei_write, NULL, NULL}},
+    {"64_levels", "sill_write", nested, 63, {our_write, ei_write, NULL, NULL}},
+    {"three_terms", "sill_write", message, 0, {our_write, ei_write, NULL, NULL}},
+};
+
 #define EACH(table) table, sizeof table / sizeof *table
 
 static const struct {
     const char *name;
     const struct row *rows;
     size_t n;
-} tables[] = {{"rows", EACH(rows)}, {"lengths", EACH(lengths)}, {"floors", EACH(floors)}};
+} tables[] = {{"rows", EACH(rows)}, {"lengths", EACH(lengths)}, {"floors", EACH(floors)}, {"writing", EACH(writing)}};
 
 enum { TABLES = sizeof tables / sizeof *tables };
 
@@ -186,10 +207,15 @@ static void fail(const char *why, const char *where) {
     exit(1);
 }
 
-// The row's input. Where it is a record, its terms are counted, and their cells lie on the tape.
+// The row's input. Where it is a record, its terms are counted, and their cells lie on the tape. Where it is to be written, its bytes are those
+// that will be: a record spends five on integers that do with two.
 static void make(const struct row *row) {
     len = row->make(bytes, row->of);
     terms = their_read() ? told[SILL_BEGUN] : 0;
+    if (row->by[0] != our_write) return;
+    items_of(&items, bytes, len, tape, terms);
+    terms = items.n;
+    len = bytes_of(&items);
 }
 
 static double now(void) {
@@ -295,6 +321,22 @@ static void check(const char *name, size_t whole, int damages) {
     }
 }
 
+static void check_writing(void) {
+    static struct items back;
+    for (const struct row *row = writing; row < writing + sizeof writing / sizeof *writing; row++) {
+        make(row);
+        if (!our_write()) fail("its row is refused, or has another length", row->name);
+        memcpy(bytes, written, len);
+        memset(written, 0, len);
+        if (row->by[1] && (!row->by[1]() || memcmp(written, bytes, len) != 0)) fail("ei writes other bytes", row->name);
+        if (!their_read()) fail("what is written is refused", row->name);
+        items_of(&back, bytes, len, tape, told[SILL_BEGUN]);
+        if (back.n != items.n || memcmp(back.item, items.item, items.n * sizeof *items.item) != 0 || back.texts != items.texts ||
+            memcmp(back.text, items.text, items.texts) != 0)
+            fail("what is written is another row", row->name);
+    }
+}
+
 static int digit(int c) { return '0' <= c && c <= '9' ? c - '0' : 'a' <= c && c <= 'f' ? c - 'a' + 10 : -1; }
 
 // The last word of each line of standard input, where it is bytes in hex: requests as in lists/.
@@ -319,14 +361,14 @@ static void check_rows(void) {
 
 int main(int argc, char **argv) {
     const char *what = argc < 2 ? "" : argv[1];
-    if (strcmp(what, "check") == 0) check_lines(), check_rows();
+    if (strcmp(what, "check") == 0) check_lines(), check_rows(), check_writing();
     for (size_t t = 0; t < TABLES; t++)
         for (const struct row *row = tables[t].rows; row < tables[t].rows + tables[t].n; row++) {
             if (strcmp(what, tables[t].name) == 0) printf("%s %s\n", row->name, row->call);
-            if (argc < 3 || strcmp(argv[2], row->name) != 0) continue;
+            if (argc < 4 || strcmp(argv[2], tables[t].name) != 0 || strcmp(argv[3], row->name) != 0) continue;
             make(row);
             if (strcmp(what, "times") == 0) times(row);
-            if (strcmp(what, "once") == 0 && 3 < argc) return !row->by[atoi(argv[3])]();
+            if (strcmp(what, "once") == 0 && 4 < argc) return !row->by[atoi(argv[4])]();
         }
     return 0;
 }

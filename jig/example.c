@@ -1,10 +1,10 @@
-/* The example: reads a record of the bench, walks its tape and prints its rows as a table.
+/* The example: reads a record of the bench, walks its tape, prints its rows as a table, and answers with an acknowledgement.
  *
  *   example FILE
  *
  * A record is a map that has a channel, a cell and a list of rows, each a tuple of seconds, millivolts, milliamps and degrees. All rows are
- * taken into a table of fixed size before any is printed, so that what is printed is the whole record. Anything else is refused aloud: the
- * reason goes to standard error, nothing to standard output, and the program exits with 1. */
+ * taken into a table of fixed size, and the acknowledgement is written, before anything is printed, so that what is printed is the whole record
+ * and its answer. Anything else is refused aloud: the reason goes to standard error, nothing to standard output, and the program exits with 1. */
 #include <stdarg.h>
 #include <stdio.h>
 #include <stdlib.h>
@@ -12,11 +12,15 @@
 
 #include "sillthread.h"
 
-enum { RECORD = 65536, CELLS = 3276, ROWS = 9, COLUMNS = 4 };
+enum { RECORD = 65536, CELLS = 3276, ROWS = 9, COLUMNS = 4, ANSWER = 48 };
 
-/* All the memory that is used: the record, its tape, and the table. */
-static uint8_t bytes[RECORD];
+/* The one name of the answer that isn't in the record. */
+static const char ack[] = "ack";
+
+/* All the memory that is used: the record with that name behind it, its tape, the table, and the answer. */
+static uint8_t bytes[RECORD + sizeof ack];
 static uint32_t tape[CELLS * SILL_CELL];
+static uint8_t answer[ANSWER];
 
 static struct row {
     int64_t seconds, millivolts, milliamps;
@@ -38,7 +42,7 @@ static void refuse(const char *format, ...) {
 
 static const char *named(uint64_t number) {
     static const char *const names[] = {"Done", "Eof",  "Tag",  "Text",    "Literal", "Bits",  "Size",  "Trailing", "Deep",
-                                        "Room", "Long", "Name", "Version", "Kind",    "Limit", "Store", "Absent"};
+                                        "Room", "Long", "Name", "Version", "Kind",    "Limit", "Store", "Absent",   "Items"};
     return number < sizeof names / sizeof *names ? names[number] : "?";
 }
 
@@ -126,10 +130,28 @@ static size_t rows_of(size_t list, size_t cells) {
     return head[SILL_FIELD];
 }
 
+/* The answer {ack, Channel, Rows, Cell}: how many bytes it has. Its items stand in the order in which they are written, the tuple before its four
+ * children. Their texts are parts of one run of bytes: the record's own, where the cell's name is, and the answer's name behind them. */
+static size_t acknowledge(int64_t channel, size_t rows, const uint64_t *cell) {
+    const struct sill_item items[] = {
+        {SILL_TUPLE, 4, 0},
+        {SILL_ATOM, len, strlen(ack)},
+        {SILL_INTEGER, (uint64_t)channel, 0},
+        {SILL_INTEGER, rows, 0},
+        {SILL_BINARY, cell[0], cell[1]},
+    };
+    uint64_t told[SILL_WRITE_TOLD];
+    memcpy(bytes + len, ack, strlen(ack));
+    sill_write((const uint64_t *)items, SILL_ITEM * (sizeof items / sizeof *items), bytes, len + strlen(ack), answer, ANSWER, told);
+    if (told[0] != SILL_DONE)
+        refuse("no answer can be written: %s (%llu), extra %llu", named(told[0]), (unsigned long long)told[0], (unsigned long long)told[2]);
+    return told[1];
+}
+
 int main(int argc, char **argv) {
     uint64_t told[SILL_TOLD], path[SILL_PATH], name[SILL_PART_TOLD];
     FILE *in;
-    size_t rows;
+    size_t rows, answered;
     int64_t channel;
     if (argc != 2 || (in = fopen(argv[1], "rb")) == NULL) {
         fprintf(stderr, "usage: example FILE, a record that can be read\n");
@@ -146,11 +168,15 @@ int main(int argc, char **argv) {
     channel = integer(value_of("channel"), "channel");
     cell_name(value_of("cell"), name);
     rows = rows_of(value_of("rows"), told[SILL_BEGUN]);
+    answered = acknowledge(channel, rows, name);
 
     printf("channel %lld, cell %.*s, %zu rows\n", (long long)channel, (int)name[1], (const char *)bytes + name[0], rows);
     printf("%8s %8s %8s %8s\n", "s", "mV", "mA", "C");
     for (size_t i = 0; i < rows; i++)
         printf("%8lld %8lld %8lld %8.2f\n", (long long)table[i].seconds, (long long)table[i].millivolts,
                (long long)table[i].milliamps, table[i].degrees);
+    printf("answer");
+    for (size_t i = 0; i < answered; i++) printf(" %02x", answer[i]);
+    printf("\n");
     return 0;
 }

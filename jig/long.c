@@ -1,5 +1,11 @@
-/* Number 10 for every call that takes an input: each is made with an input of 16,777,216 bytes, the longest, and of one byte more, which is
+/* The longest of everything, and one more.
+ *
+ * Number 10 for every call that takes an input: each is made with an input of 16,777,216 bytes, the longest, and of one byte more, which is
  * refused as Long and leaves everything else as it was. The inputs are made of good bytes, so that nothing but the length is at fault.
+ *
+ * Numbers 17 and 9 for the writer: its caps, the integers where the tag changes, names, nesting, places and room, each from both sides. A
+ * refused write must leave every byte that it is lent, a Done one those behind the term, and that is read back whole.
+ *
  * Prints a line for each call and exits with 1 where an answer isn't as expected. */
 #include <stdio.h>
 #include <string.h>
@@ -45,6 +51,150 @@ static void expect(const char *call, size_t n, const uint64_t *want, int words, 
                memcmp(filled, was_filled, sizeof filled);
     printf("%-16s %zu bytes: tells %llu first%s\n", call, n, (unsigned long long)told[0], bad ? " AND NOT AS EXPECTED" : "");
     failed |= bad;
+}
+
+/* Writing. The texts are in `bytes`, all of it, but where they are said to be fewer. */
+enum { ELEMENTS = 10000000, PAIRS = 1000000, NAME = 65535, BEHIND = 64, ALL = SILL_LONGEST + 1 };
+
+static uint8_t out[ALL + 2 * BEHIND];
+static struct sill_item items[ELEMENTS + 2];
+static size_t row, texts = ALL;
+
+static void item(uint64_t kind, uint64_t x, uint64_t y) { items[row++] = (struct sill_item){kind, x, y}; }
+
+/* The row as it stands, into so many bytes: what it must tell, and that the bytes that it doesn't write are as they were. */
+static void write(const char *what, size_t room, uint64_t number, uint64_t len, uint64_t extra) {
+    const uint64_t want[SILL_WRITE_TOLD] = {number, len, extra};
+    int bad = 0;
+    memset(out, PAINT, room + BEHIND);
+    memset(told, PAINT, sizeof told);
+    sill_write((const uint64_t *)items, SILL_ITEM * row, bytes, texts, out, room, told);
+    bad |= memcmp(told, want, sizeof want) != 0 || (told[SILL_WRITE_TOLD] & 255) != PAINT;
+    for (size_t i = len; i < room + BEHIND; i++) bad |= out[i] != PAINT;
+    printf("%-16s %s: tells %llu first%s\n", "sill_write", what, (unsigned long long)told[0], bad ? " AND NOT AS EXPECTED" : "");
+    failed |= bad;
+}
+
+/* The row must be refused as Items, into all there is and into nothing. It is empty then. */
+static void refused(const char *what) {
+    write(what, ALL, SILL_ITEMS, 0, 0);
+    write(what, 0, SILL_ITEMS, 0, 0);
+    row = 0;
+}
+
+/* The row must be written: not into a byte too few, which tells how many it needs, but into as many, and into more. What is written begins with
+ * these bytes, and is read back as so many terms to its end. The row is empty then. */
+static void done(const char *what, size_t len, const uint8_t *front, size_t n, uint64_t terms) {
+    write(what, len - 1, SILL_ROOM, 0, len);
+    write(what, len, SILL_DONE, len, 0);
+    write(what, len + BEHIND, SILL_DONE, len, 0);
+    row = 0;
+    sill_term(out, len, 1, SILL_DEEPEST, told, path);
+    if (memcmp(out, front, n) != 0 || told[SILL_NUMBER] != SILL_DONE || told[SILL_END] != len || told[SILL_BEGUN] != terms) {
+        printf("%-16s %s: NOT AS EXPECTED\n", "bytes", what);
+        failed = 1;
+    }
+}
+
+#define DONE(what, len, terms, ...) done(what, len, (const uint8_t[]){131, __VA_ARGS__}, sizeof(const uint8_t[]){131, __VA_ARGS__}, terms)
+
+/* So many Nils, and what has them for its children before them. */
+static void nils(enum sill_kind kind, uint64_t x, size_t n) {
+    item(kind, x, 0);
+    while (n--) item(SILL_NIL, 0, 0);
+}
+
+/* So many tuples of one, each in the one before. */
+static void tuples(int n) {
+    while (n--) item(SILL_TUPLE, 1, 0);
+}
+
+static void caps(void) {
+    nils(SILL_LIST, ELEMENTS, ELEMENTS), DONE("10,000,000 elements", 6 + ELEMENTS + 1, ELEMENTS + 2, 108, 0, 152, 150, 128, 106, 106);
+    nils(SILL_LIST, ELEMENTS + 1, ELEMENTS + 1), refused("10,000,001 elements");
+    nils(SILL_TUPLE, ELEMENTS, ELEMENTS), DONE("10,000,000 children", 6 + ELEMENTS, ELEMENTS + 1, 105, 0, 152, 150, 128, 106, 106);
+    nils(SILL_TUPLE, ELEMENTS + 1, ELEMENTS + 1), refused("10,000,001 children");
+    nils(SILL_MAP, PAIRS, 2 * PAIRS), DONE("1,000,000 pairs", 6 + 2 * PAIRS, 2 * PAIRS + 1, 116, 0, 15, 66, 64, 106, 106);
+    nils(SILL_MAP, PAIRS + 1, 2 * PAIRS + 2), refused("1,000,001 pairs");
+    item(SILL_BINARY, 0, SILL_LONGEST - 6), DONE("16,777,216 bytes", SILL_LONGEST, 1, 109, 0, 255, 255, 250, 'a');
+    item(SILL_BINARY, 0, SILL_LONGEST - 5), refused("16,777,217 bytes");
+    /* the last byte is a tail's */
+    item(SILL_LIST, 1, 0), item(SILL_BINARY, 0, SILL_LONGEST - 12), DONE("16,777,216 with a tail", SILL_LONGEST, 3, 108, 0, 0, 0, 1, 109);
+    item(SILL_LIST, 1, 0), item(SILL_BINARY, 0, SILL_LONGEST - 11), refused("16,777,217 with a tail");
+    nils(SILL_TUPLE, 255, 255), DONE("255 children", 3 + 255, 256, 104, 255, 106);
+    nils(SILL_TUPLE, 256, 256), DONE("256 children", 6 + 256, 257, 105, 0, 0, 1, 0, 106);
+}
+
+static void integers(void) {
+    item(SILL_INTEGER, 0, 0), DONE("0", 3, 1, 97, 0);
+    item(SILL_INTEGER, 255, 0), DONE("255", 3, 1, 97, 255);
+    item(SILL_INTEGER, 256, 0), DONE("256", 6, 1, 98, 0, 0, 1, 0);
+    item(SILL_INTEGER, (uint64_t)-1, 0), DONE("-1", 6, 1, 98, 255, 255, 255, 255);
+    item(SILL_INTEGER, INT32_MAX, 0), DONE("2^31 - 1", 6, 1, 98, 127, 255, 255, 255);
+    item(SILL_INTEGER, INT32_MAX + 1ull, 0), DONE("2^31", 8, 1, 110, 4, 0, 0, 0, 0, 128);
+    item(SILL_INTEGER, (uint64_t)INT32_MIN, 0), DONE("-2^31", 6, 1, 98, 128, 0, 0, 0);
+    item(SILL_INTEGER, (uint64_t)(INT32_MIN - 1ll), 0), DONE("-2^31 - 1", 8, 1, 110, 4, 1, 1, 0, 0, 128);
+    item(SILL_INTEGER, UINT32_MAX, 0), DONE("2^32 - 1", 8, 1, 110, 4, 0, 255, 255, 255, 255);
+    item(SILL_INTEGER, UINT32_MAX + 1ull, 0), DONE("2^32", 9, 1, 110, 5, 0, 0, 0, 0, 0, 1);
+    item(SILL_INTEGER, INT64_MAX, 0), DONE("2^63 - 1", 12, 1, 110, 8, 0, 255, 255, 255, 255, 255, 255, 255, 127);
+    item(SILL_INTEGER, (uint64_t)INT64_MIN, 0), DONE("-2^63", 12, 1, 110, 8, 1, 0, 0, 0, 0, 0, 0, 0, 128);
+}
+
+/* Names of the letter a, and places at the texts' ends. */
+static void places(void) {
+    item(SILL_ATOM, 0, 0), DONE("a name of 0", 3, 1, 119, 0);
+    item(SILL_ATOM, 0, 255), DONE("a name of 255", 3 + 255, 1, 119, 255, 'a');
+    item(SILL_ATOM, 0, 256), DONE("a name of 256", 4 + 256, 1, 118, 1, 0, 'a');
+    item(SILL_ATOM, 0, NAME), DONE("a name of 65,535", 4 + NAME, 1, 118, 255, 255, 'a');
+    item(SILL_ATOM, 0, NAME + 1), refused("a name of 65,536");
+    memcpy(bytes, "\xce\xbc", 2);
+    item(SILL_ATOM, 0, 2), DONE("a name not ASCII", 5, 1, 119, 2, 0xce, 0xbc);
+    item(SILL_ATOM, 0, 1), refused("a name not UTF-8");
+    memset(bytes, 'a', 2);
+    for (enum sill_kind kind = SILL_ATOM; kind <= SILL_BINARY; kind++) {
+        const size_t front = kind == SILL_ATOM ? 3 : 6;
+        texts = 20;
+        item(kind, 4, 16), done("the last 16", front + 16, bytes, 0, 1);
+        item(kind, 4, 17), refused("17 from there");
+        item(kind, 20, 0), done("0 at the end", front, bytes, 0, 1);
+        item(kind, 21, 0), refused("0 behind it");
+        item(kind, 20, 1), refused("1 at the end");
+        item(kind, UINT64_MAX, 2), refused("a place that wraps");
+        item(kind, 2, UINT64_MAX), refused("a length that wraps");
+        texts = 0;
+        item(kind, 0, 0), done("0 of none", front, bytes, 0, 1);
+        item(kind, 0, 1), refused("1 of none");
+        texts = ALL;
+    }
+}
+
+/* Nesting, the tail of a list being one deeper than the list; rows that aren't one term; kinds that are none; an item cut short. */
+static void shapes(void) {
+    tuples(63), item(SILL_NIL, 0, 0), DONE("64 levels", 1 + 2 * 63 + 1, 64, 104, 1, 104, 1);
+    tuples(64), item(SILL_NIL, 0, 0), refused("65 levels");
+    tuples(63), item(SILL_TUPLE, 0, 0), DONE("an empty tuple at 64", 1 + 2 * 63 + 2, 64, 104, 1);
+    tuples(64), item(SILL_TUPLE, 0, 0), refused("an empty tuple at 65");
+    tuples(63), item(SILL_MAP, 0, 0), DONE("an empty map at 64", 1 + 2 * 63 + 5, 64, 104, 1);
+    tuples(62), item(SILL_LIST, 0, 0), DONE("an empty list at 63", 1 + 2 * 62 + 6, 64, 104, 1);
+    tuples(63), item(SILL_LIST, 0, 0), refused("an empty list at 64");
+    item(SILL_LIST, 0, 0), DONE("an empty list", 7, 2, 108, 0, 0, 0, 0, 106);
+    refused("no item");
+    tuples(1), refused("a child too few");
+    tuples(1), item(SILL_NIL, 0, 0), item(SILL_NIL, 0, 0), refused("a term too many");
+    item(SILL_MAP, 1, 0), item(SILL_NIL, 0, 0), refused("half a pair");
+    item(0, 0, 0), refused("kind 0");
+    item(SILL_NIL + 1, 0, 0), refused("kind 9");
+    item(UINT64_MAX, 0, 0), refused("kind 2^64 - 1");
+    item(SILL_LIST, UINT64_MAX, 0), refused("2^64 - 1 elements");
+    item(SILL_MAP, UINT64_MAX / 4 + 1, 0), refused("2^62 pairs");
+    item(SILL_NIL, 7, 7), DONE("fields that nobody asks for", 2, 1, 106);
+    tuples(1), item(SILL_NIL, 0, 0);
+    for (size_t words = SILL_ITEM + 1; words < 2 * SILL_ITEM; words++) {
+        memset(out, PAINT, BEHIND);
+        sill_write((const uint64_t *)items, words, bytes, texts, out, BEHIND, told);
+        printf("%-16s %zu words: tells %llu first\n", "sill_write", words, (unsigned long long)told[0]);
+        failed |= told[0] != SILL_ITEMS || out[0] != PAINT;
+    }
 }
 
 int main(void) {
@@ -106,5 +256,10 @@ int main(void) {
         if (sill_utf8(bytes, n) != n) failed = 1;
         printf("%-16s %zu bytes: %zu are good\n", "sill_utf8", n, sill_utf8(bytes, n));
     }
+    /* all of them are letters now */
+    caps();
+    integers();
+    places();
+    shapes();
     return failed;
 }

@@ -1,4 +1,4 @@
-/* Sillthread for C: a reader of Erlang terms that keeps nothing and takes no memory of its own.
+/* Sillthread for C: a reader and a writer of Erlang terms that keep nothing and take no memory of their own.
  *
  * The library is target/staticlib/libjig.a, made by `rt staticlib jig`, for x86-64. Link it with the C library: it calls memset and memcpy.
  * Each function is proved to answer what its call beneath answers (crates/jig), for every input; none can fail to return, and none looks
@@ -30,14 +30,15 @@ enum sill_number {
     SILL_SIZE = 6,     /* over a cap */
     SILL_TRAILING = 7, /* bytes left behind the term; extra: their count */
     SILL_DEEP = 8,     /* nested over the limit */
-    SILL_ROOM = 9,     /* too few cells lent; extra: the cells needed */
+    SILL_ROOM = 9,     /* too few cells lent, or bytes to write to; extra: how many are needed */
     SILL_LONG = 10,    /* the input has over SILL_LONGEST bytes */
     SILL_NAME = 11,    /* a name of over 255 bytes */
     SILL_VERSION = 12, /* a fragment's first byte; extra: that byte */
     SILL_KIND = 13,    /* not a header, fragment or map; extra: the tag */
     SILL_LIMIT = 14,   /* a nesting limit of 0 or over SILL_DEEPEST */
     SILL_STORE = 15,   /* a name store of other than SILL_STORE_BYTES */
-    SILL_ABSENT = 16   /* no such key or name */
+    SILL_ABSENT = 16,  /* no such key or name */
+    SILL_ITEMS = 17    /* a row of items that can't be written */
 };
 
 /* What a segment of a path is of. Its number is the index, for a map's value the place of the key, else 0. */
@@ -83,9 +84,27 @@ enum sill_head_told {
     SILL_HEAD_TOLD = 9
 };
 
+/* What an item of a row is, and what its fields x and y are; a field that isn't named is ignored. Behind a tuple, a list and a map stand its
+ * children, each with its own behind it. An item that was never filled has kind 0, which is none. */
+enum sill_kind {
+    SILL_INTEGER = 1, /* x: the integer, as two's complement */
+    SILL_DOUBLE = 2,  /* x: the double's bits */
+    SILL_ATOM = 3,    /* x, y: place and length of the name in the texts */
+    SILL_BINARY = 4,  /* x, y: place and length of the bytes in the texts */
+    SILL_TUPLE = 5,   /* x: how many children */
+    SILL_LIST = 6,    /* x: how many elements; the tail that ends a list is no item */
+    SILL_MAP = 7,     /* x: how many pairs of a key and its value */
+    SILL_NIL = 8
+};
+
+struct sill_item {
+    uint64_t kind, x, y;
+};
+
 /* Sizes and limits. */
 enum sill_size {
     SILL_DEEPEST = 64,        /* the largest nesting limit */
+    SILL_ITEM = 3,            /* words to an item */
     SILL_PATH = 128,          /* words of a path: two for each of 64 segments */
     SILL_FILLED = 4,          /* words that say which slots of a store are filled */
     SILL_STORE_BYTES = 65536, /* 256 slots of 256 bytes */
@@ -94,7 +113,8 @@ enum sill_size {
     SILL_HEADER_TOLD = 3,
     SILL_FIRST_TOLD = 6,
     SILL_NEXT_TOLD = 5,
-    SILL_LONGEST = 16777216   /* bytes of an input */
+    SILL_WRITE_TOLD = 3,
+    SILL_LONGEST = 16777216   /* bytes of an input, and of what is written */
 };
 
 /* Reads a record: byte 131 and one term to the input's end, nested at most `limit` deep; writes its tape, a cell for each term, into the
@@ -154,6 +174,15 @@ void sill_next(const uint8_t *b, size_t len, uint64_t told[5]);
 
 /* How many leading bytes form whole good UTF-8 characters: all `len` where the text is good. Any length is taken. */
 size_t sill_utf8(const uint8_t *b, size_t len);
+
+/* Writes a row of items as one term behind byte 131 into the `room` bytes of `out`. The row of n items is `(const uint64_t *)items` with
+ * SILL_ITEM * n words; names and binaries are parts of `texts`. An integer takes the first tag that holds it of 97, 98 and 110, with the fewest
+ * digits; an atom 119 up to 255 bytes, else 118; a tuple 104 up to 255 children, else 105; a list, empty too, 108 and a tail Nil, which counts
+ * for the nesting. Told: number, how many bytes were written (0 when refused), extra. Refused, whatever the room: Items, where the row isn't one
+ * term, has a kind that is none or words left over, a place lies outside the texts, a name isn't UTF-8 or has over 65,535 bytes, a tuple or a
+ * list has over 10,000,000 children, a map over 1,000,000 pairs, the term over SILL_LONGEST bytes with byte 131 or a nesting over SILL_DEEPEST.
+ * Then Room. Only a Done write writes to `out`, and bytes behind the term stay. */
+void sill_write(const uint64_t *row, size_t words, const uint8_t *texts, size_t texts_len, uint8_t *out, size_t room, uint64_t told[3]);
 
 #ifdef __cplusplus
 }

@@ -1,5 +1,5 @@
-/* How much stack a call writes to: each is run on a painted stack of its own, over the inputs that nest deepest, and what is no longer painted
- * is counted. What an empty call takes there is taken off. Prints a line `call bytes` for each. */
+/* How much stack a call writes to: each is run on a painted stack of its own, over the inputs that nest deepest, the writer over such rows, and
+ * what is no longer painted is counted. What an empty call takes there is taken off. Prints a line `call bytes` for each. */
 #define _XOPEN_SOURCE 700
 #include <stdio.h>
 #include <string.h>
@@ -9,10 +9,11 @@
 
 enum { STACK = 1 << 19, CELLS = 3276, LONGEST_LINK = 64 };
 
-static uint8_t stack[STACK], bytes[1 << 16], store[SILL_STORE_BYTES];
+static uint8_t stack[STACK], bytes[1 << 16], store[SILL_STORE_BYTES], out[1 << 12];
 static uint32_t tape[CELLS * SILL_CELL];
 static uint64_t told[SILL_HEAD_TOLD], path[SILL_PATH], filled[SILL_FILLED];
-static size_t len;
+static struct sill_item items[2 * SILL_DEEPEST + 4];
+static size_t len, row;
 static ucontext_t here, there;
 
 static void nothing(void) {}
@@ -29,6 +30,13 @@ static void header(void) { sill_header(bytes, len, filled, store, sizeof store, 
 static void first(void) { sill_first(bytes, len, told); }
 static void next(void) { sill_next(bytes, len, told); }
 static void utf8(void) { sill_utf8(bytes, len); }
+
+/* The writer, or an empty call with as many arguments: what the caller lays down for the last of them is the caller's. */
+static void no_write(const uint64_t *r, size_t w, const uint8_t *t, size_t n, uint8_t *o, size_t room, uint64_t *to) {
+    (void)r, (void)w, (void)t, (void)n, (void)o, (void)room, (void)to;
+}
+static void (*volatile writer)(const uint64_t *, size_t, const uint8_t *, size_t, uint8_t *, size_t, uint64_t *);
+static void write(void) { writer((const uint64_t *)items, SILL_ITEM * row, bytes, len, out, sizeof out, told); }
 
 static size_t painted(void (*call)(void), uint8_t paint) {
     size_t i = 0;
@@ -92,6 +100,16 @@ static void chain(const struct link *link, int n, const uint8_t *leaf, size_t le
     for (int i = 0; i < n; i++, len += link->back) memcpy(bytes + len, link->behind, link->back);
 }
 
+/* The same as a row, with Nil for a map's key. */
+static void chain_row(enum sill_kind kind, int n, struct sill_item leaf) {
+    row = 0;
+    for (int i = 0; i < n; i++) {
+        items[row++] = (struct sill_item){kind, 1, 0};
+        if (kind == SILL_MAP) items[row++] = (struct sill_item){SILL_NIL, 0, 0};
+    }
+    items[row++] = leaf;
+}
+
 int main(void) {
     static const struct {
         const char *name;
@@ -144,5 +162,22 @@ int main(void) {
     len = sizeof name - 3;
     memcpy(bytes, name + 3, len);
     printf("sill_utf8 %zu\n", used(utf8) - none);
+    {
+        /* the name again, short of its last byte too, and a number of the most digits */
+        const struct sill_item leaves[] = {{SILL_ATOM, 0, len}, {SILL_ATOM, 0, len - 1}, {SILL_BINARY, 0, len}, {SILL_INTEGER, INT64_MAX, 0},
+                                           {SILL_DOUBLE, 0, 0}, {SILL_LIST, 0, 0}, {SILL_NIL, 0, 0}};
+        size_t n = 0, call;
+        writer = no_write;
+        call = used(write);
+        writer = sill_write;
+        for (enum sill_kind kind = SILL_TUPLE; kind <= SILL_MAP; kind++)
+            for (size_t l = 0; l < sizeof leaves / sizeof *leaves; l++)
+                for (int levels = 61; levels <= 65; levels++) {
+                    chain_row(kind, levels, leaves[l]);
+                    size_t m = used(write) - call;
+                    if (n < m) n = m;
+                }
+        printf("sill_write %zu\n", n);
+    }
     return 0;
 }

@@ -2,24 +2,21 @@
 -- to read certain runs of bytes, all of them and no others, and a row is put together of such pieces. Assumes nothing.
 use Prim.Native.Nat.{ℕ, _+_, _≤_}
 use native.Mathlib.Omega.{arith}
-use mathlib.Core.Path.{_≡_, refl, ap, sym, subst, _∙_}
+use mathlib.Core.Path.{_≡_, refl, ap, sym, _∙_}
 use mathlib.Core.Logic.{_↔_}
-use mathlib.Core.List.{List, [], _∷_, _++_, append-nil}
+use mathlib.Core.List.{List, [], _∷_, _++_}
 use mathlib.Core.Bool.{Bool, true, false, cond, _||_}
-use borrow.Author.Tests.{eqb-true, eq-eqb, leb-true, le-leb}
+use borrow.Author.Tests.{eqb-true, leb-true, le-leb}
 use lib.Dec.{eqb, leb}
 use lib.ListN.{length, take, drop, length-append}
-use lib.Seq.{take-length, drop-length}
 use Rattle.fields.specs.Be.{be}
 use Rattle.fields.specs.Field.{fieldAt}
 use Rattle.fields.specs.declared.Field.{Field}
 use Rattle.fields.specs.declared.Field.the-variants as field
 use Rattle.fields.proofs.Laws.{is-there, is-whole, then-is, then-eof}
 use Rattle.utf8.specs.Inner.Find.{goodBytes}
-use Rattle.utf8.specs.Good.{spelled, Utf8}
-use Rattle.utf8.proofs.Runs.{at-end, good-to}
-use Rattle.utf8.proofs.Meaning.{good-bytes}
-use Rattle.utf8.proofs.Unique.{good-unique}
+use Rattle.utf8.specs.Good.{Utf8}
+use Rattle.utf8.proofs.Laws.{utf8-is}
 use Rattle.literal.specs.Inner.Trim.{trimmed}
 use Rattle.literal.specs.Literal.{Literal}
 use Rattle.literal.specs.Inner.Parse.{isLiteral}
@@ -46,20 +43,6 @@ pub record Rowed (b : List ℕ) (tag p e : ℕ) : Type 0 where
   pub ends : e ≡ p + length front
 
 -- ---- what the tests of bytes mean
-
-utf8-is : (l : List ℕ) → (eqb (goodBytes l) (length l) ≡ true) ↔ Utf8 l
-utf8-is l = (
-  λ e.
-      let n : take (goodBytes l) l ≡ l = rw (eqb-true (goodBytes l) (length l) e) (take-length l) in
-      subst Utf8 n (good-bytes l .text),
-  λ u.
-      eq-eqb _ _ (good-unique (good-bytes l) (good-to (record {
-        chars = u .chars;
-        scalars = u .scalars;
-        within = omega arith;
-        front = u .is ∙ sym (append-nil (spelled (u .chars))) ∙ ap (λ (r : List ℕ). spelled (u .chars) ++ r) (sym (drop-length l));
-      }) (at-end l (length l) (omega arith)))),
-)
 
 cap-is : (n most : ℕ) → (leb n most ≡ true) ↔ (n ≤ most)
 cap-is n most = (leb-true n most, le-leb n most)

@@ -18,6 +18,7 @@ pub enum Asked {
     Tape,
     Name,
     Number,
+    Write,
     Get,
     Names,
     Count,
@@ -25,7 +26,8 @@ pub enum Asked {
     Unknown,
 }
 
-// A request. Its numbers are 0 where it has none. The word that spells bytes begins at `rest`, which is 0 where it has none.
+// A request. Its numbers are 0 where it has none; of a row it has how many there are. The word that spells bytes begins at `rest`, which is 0
+// where it has none.
 pub struct Line {
     pub asked: Asked,
     pub first: usize,
@@ -35,7 +37,8 @@ pub struct Line {
     pub rest: usize,
 }
 
-pub fn of(line: &[u8]) -> Line
+// A row's numbers go into `row`, those that there is room for.
+pub fn of(line: &[u8], row: &mut [u64]) -> Line
     ensures { λ r. ⌜ r .rest ≤ length (now (line .entry)) ⌝ }
 {
     let end = words::word_end(line, 0);
@@ -43,7 +46,7 @@ pub fn of(line: &[u8]) -> Line
     if end == line.len() {
         return alone(asked);
     }
-    behind(asked, line, end + 1)
+    behind(asked, line, row, end + 1)
 }
 
 // The first words of lines, by their letters in hex.
@@ -60,6 +63,7 @@ fn what(word: &[u8]) -> Asked {
         0x1_74617065 => Asked::Tape,
         0x1_6e616d65 => Asked::Name,
         0x1_6e756d626572 => Asked::Number,
+        0x1_7772697465 => Asked::Write,
         0x1_676574 => Asked::Get,
         0x1_6e616d6573 => Asked::Names,
         0x1_636f756e74 => Asked::Count,
@@ -79,7 +83,7 @@ fn alone(asked: Asked) -> Line
 }
 
 // What follows the first word.
-fn behind(asked: Asked, line: &[u8], from: usize) -> Line
+fn behind(asked: Asked, line: &[u8], row: &mut [u64], from: usize) -> Line
     requires { ⌜ from ≤ length (now line) ⌝ }
     ensures { λ r. ⌜ r .rest ≤ length (now (line .entry)) ⌝ }
 {
@@ -88,6 +92,7 @@ fn behind(asked: Asked, line: &[u8], from: usize) -> Line
         Asked::Get => slot(line, from),
         Asked::Head => place(line, from),
         Asked::Read | Asked::Tape | Asked::Name | Asked::Number => numbers(asked, line, from),
+        Asked::Write => items(line, row, from),
         _ => made(asked, 0, 0, 0, 0, from),
     }
 }
@@ -160,6 +165,26 @@ fn number(first: usize, second: usize, line: &[u8], from: usize) -> Line
         return unknown();
     };
     made(Asked::Number, first, second, 0, key, end + 1)
+}
+
+// ROOM and ROW
+fn items(line: &[u8], row: &mut [u64], from: usize) -> Line
+    requires { ⌜ from ≤ length (now line) ⌝ }
+    ensures { λ r. ⌜ r .rest ≤ length (now (line .entry)) ⌝ }
+{
+    let room = words::take(line, from);
+    if room.next == 0 {
+        return unknown();
+    }
+    let begin = room.next;
+    let end = words::word_end(line, begin);
+    if end == line.len() {
+        return unknown();
+    }
+    let Number::Is(n) = words::numbers(&line[begin..end], row) else {
+        return unknown();
+    };
+    made(Asked::Write, room.value, n, 0, 0, end + 1)
 }
 
 fn made(asked: Asked, first: usize, second: usize, third: usize, key: i64, rest: usize) -> Line

@@ -3,7 +3,7 @@ ghost use Prim.Native.Nat.{_≤_, _<_};
 ghost use lib.ListN.{length};
 
 // The most letters that a request of 65,536 bytes has: `number`, two numbers of twenty digits, a key of as many letters, four spaces, and
-// two letters for a byte.
+// two letters for a byte. A row that is to be written has what its texts leave of them.
 pub const LONGEST: usize = 131142;
 
 // Where the bytes in the buffer end, and whether reading failed.

@@ -13,6 +13,7 @@ mod parts;
 mod requests;
 mod values;
 mod words;
+mod writes;
 
 use cache::Cache;
 ghost use mathlib.Core.Path.{_≡_};
@@ -24,8 +25,19 @@ fn main() {
     let mut bytes = io::large_buffer();
     let mut store = io::large_buffer();
     let mut run = space();
+    // a row's numbers, of which a line has hardly room for more, and the bytes that are lent to the writer
+    let mut row = [0u64; 65536];
+    let mut lent = [0u8; 262144];
     let mut out = io::large_buffer();
-    serve(&mut text, &mut bytes, &mut store, &mut run, &mut out);
+    serve(
+        &mut text,
+        &mut bytes,
+        &mut store,
+        &mut run,
+        &mut row,
+        &mut lent,
+        &mut out,
+    );
 }
 
 // The words of a tape: five for each term that a request of 65,536 bytes can have.
@@ -37,29 +49,81 @@ fn space() -> [u32; 327680]
 
 // Answers all of standard input.
 // A proved loop has to end, and nothing says that the input does: it counts its turns down from a number that no run uses up.
-fn serve(text: &mut [u8], bytes: &mut [u8], store: &mut [u8], run: &mut [u32], out: &mut [u8])
+fn serve(
+    text: &mut [u8],
+    bytes: &mut [u8],
+    store: &mut [u8],
+    run: &mut [u32],
+    row: &mut [u64],
+    lent: &mut [u8],
+    out: &mut [u8],
+)
     requires { ⌜ (131143 < length (now text)) × (65536 ≤ length (now bytes)) ⌝ }
 {
     let mut names = cache::empty();
     let mut kept = 0;
     let mut turns = u64::MAX;
     while 0 < turns {
-        let filled = input::fill(text, kept);
-        if filled.failed {
-            print::unread();
+        let t = turn(text, kept, names, bytes, store, run, row, lent, out);
+        if t.last {
             return;
         }
-        let end = filled.end;
-        if end == kept {
-            return;
-        }
-        let gone = lines(text, end, names, bytes, store, run, out);
-        if gone.failed {
-            return;
-        }
-        kept = input::keep(text, gone.from, end);
-        names = gone.names;
+        kept = t.kept;
+        names = t.names;
         turns -= 1;
+    }
+}
+
+// What a turn leaves: how many bytes of an unfinished line were kept, the names, and that no turn follows.
+struct Left {
+    kept: usize,
+    names: Cache,
+    last: bool,
+}
+
+// Reads once, behind what was kept, and answers the lines that are whole then.
+fn turn(
+    text: &mut [u8],
+    kept: usize,
+    names: Cache,
+    bytes: &mut [u8],
+    store: &mut [u8],
+    run: &mut [u32],
+    row: &mut [u64],
+    lent: &mut [u8],
+    out: &mut [u8],
+) -> Left
+    requires { ⌜ (kept < length (now text)) × (65536 ≤ length (now bytes)) ⌝ }
+    ensures { λ r. ⌜ r .kept ≤ 131143 ⌝ }
+{
+    let filled = input::fill(text, kept);
+    if filled.failed {
+        print::unread();
+        return last(names);
+    }
+    let end = filled.end;
+    if end == kept {
+        return last(names);
+    }
+    let gone = lines(text, end, names, bytes, store, run, row, lent, out);
+    let after = gone.names;
+    if gone.failed {
+        return last(after);
+    }
+    Left {
+        kept: input::keep(text, gone.from, end),
+        names: after,
+        last: false,
+    }
+}
+
+fn last(names: Cache) -> Left
+    ensures { λ r. ⌜ r .kept ≡ 0 ⌝ }
+{
+    Left {
+        kept: 0,
+        names,
+        last: true,
     }
 }
 
@@ -78,6 +142,8 @@ fn lines(
     bytes: &mut [u8],
     store: &mut [u8],
     run: &mut [u32],
+    row: &mut [u64],
+    lent: &mut [u8],
     out: &mut [u8],
 ) -> Gone
     requires { ⌜ (end ≤ length (now text)) × (65536 ≤ length (now bytes)) ⌝ }
@@ -89,8 +155,9 @@ fn lines(
     let mut stop = input::line_end(text, from, end);
     while stop < end {
         let next = stop + 1;
-        let put = requests::request(&text[from..stop], names, bytes, store, run, out, at);
-        at = print::text(out, put.at, b"\n");
+        let line = &text[from..stop];
+        let put = requests::request(line, names, bytes, store, run, row, lent, out, at);
+        at = put.at;
         names = put.names;
         from = next;
         stop = input::line_end(text, from, end);

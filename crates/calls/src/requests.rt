@@ -10,17 +10,38 @@ use crate::names;
 use crate::names::Reached;
 use crate::parts;
 use crate::words;
+use crate::writes;
 use cache::Cache;
 ghost use Prim.Native.Nat.{_≤_};
 ghost use lib.ListN.{length};
 
-// Answers a line, without the end of line. No request of 65,536 bytes has more letters than the longest line.
+// Answers a line by a line.
 pub fn request(
     line: &[u8],
     known: Cache,
     bytes: &mut [u8],
     store: &mut [u8],
     run: &mut [u32],
+    row: &mut [u64],
+    lent: &mut [u8],
+    out: &mut [u8],
+    at: usize,
+) -> Reached
+    requires { ⌜ 65536 ≤ length (now bytes) ⌝ }
+{
+    let put = told(line, known, bytes, store, run, row, lent, out, at);
+    reached(print::text(out, put.at, b"\n"), put.names)
+}
+
+// The answer without the end of line. A line that is longer than the longest request is none.
+fn told(
+    line: &[u8],
+    known: Cache,
+    bytes: &mut [u8],
+    store: &mut [u8],
+    run: &mut [u32],
+    row: &mut [u64],
+    lent: &mut [u8],
     out: &mut [u8],
     at: usize,
 ) -> Reached
@@ -29,12 +50,13 @@ pub fn request(
     if input::LONGEST < line.len() {
         return reached(long(out, at), known);
     }
-    let l = asked::of(line);
+    let l = asked::of(line, row);
     let rest = l.rest;
     if rest == 0 {
         return wordless(l, known, store, out, at);
     }
-    over(l, &line[rest..], known, bytes, store, run, out, at)
+    let word = &line[rest..];
+    over(l, word, known, bytes, store, run, row, lent, out, at)
 }
 
 // What is asked of no bytes.
@@ -60,6 +82,8 @@ fn over(
     bytes: &mut [u8],
     store: &mut [u8],
     run: &mut [u32],
+    row: &[u64],
+    lent: &mut [u8],
     out: &mut [u8],
     at: usize,
 ) -> Reached
@@ -76,10 +100,18 @@ fn over(
     if let Asked::Header = asked {
         return names::header(&bytes[..n], known, store, out, at);
     }
-    reached(answer(l, &bytes[..n], run, out, at), known)
+    reached(answer(l, &bytes[..n], run, row, lent, out, at), known)
 }
 
-fn answer(l: Line, b: &[u8], run: &mut [u32], out: &mut [u8], at: usize) -> usize {
+fn answer(
+    l: Line,
+    b: &[u8],
+    run: &mut [u32],
+    row: &[u64],
+    lent: &mut [u8],
+    out: &mut [u8],
+    at: usize,
+) -> usize {
     let asked = l.asked;
     match asked {
         Asked::Term => cells::term(b, run, out, at),
@@ -92,6 +124,7 @@ fn answer(l: Line, b: &[u8], run: &mut [u32], out: &mut [u8], at: usize) -> usiz
         Asked::Tape => cells::tape(b, l.first, l.second, run, out, at),
         Asked::Name => answers::find_name(b, l.first, l.second, l.third, out, at),
         Asked::Number => answers::find_number(b, l.first, l.second, l.key, out, at),
+        Asked::Write => writes::write(b, l.first, l.second, row, lent, out, at),
         _ => print::text(out, at, b"unknown"),
     }
 }

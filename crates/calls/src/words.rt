@@ -1,4 +1,4 @@
-// What request lines are made of: words with one space between them, decimal numbers, and bytes as lower-case hex.
+// What request lines are made of: words with one space between them, decimal numbers, rows of these, and bytes as lower-case hex.
 ghost use Prim.Native.Nat.{_≤_, _/_};
 ghost use lib.ListN.{length};
 
@@ -40,9 +40,17 @@ pub fn word_end(line: &[u8], from: usize) -> usize
     requires { ⌜ from ≤ length (now line) ⌝ }
     ensures { λ r. ⌜ (from ≤ r) × (r ≤ length (now (line .entry))) ⌝ }
 {
+    end_by(b' ', line, from)
+}
+
+// Where a letter stands from `from` on, the text's end where it doesn't.
+fn end_by(letter: u8, text: &[u8], from: usize) -> usize
+    requires { ⌜ from ≤ length (now text) ⌝ }
+    ensures { λ r. ⌜ (from ≤ r) × (r ≤ length (now (text .entry))) ⌝ }
+{
     let mut i = from;
-    while i < line.len() {
-        if line[i] == b' ' {
+    while i < text.len() {
+        if text[i] == letter {
             return i;
         }
         i += 1;
@@ -129,6 +137,35 @@ pub fn take(line: &[u8], from: usize) -> Taken
     Taken {
         value,
         next: end + 1,
+    }
+}
+
+// How many decimal numbers a word has, joined by commas; `-` is none. Those that there is room for are put at the start of `row`.
+pub fn numbers(word: &[u8], row: &mut [u64]) -> Number {
+    if word.len() == 1 {
+        if word[0] == b'-' {
+            return Number::Is(0);
+        }
+    }
+    let mut n = 0;
+    let mut from = 0;
+    loop {
+        let end = end_by(b',', word, from);
+        let Number::Is(x) = value(&word[from..end]) else {
+            return Number::Not;
+        };
+        put(row, n, x as u64);
+        n += 1;
+        if end == word.len() {
+            return Number::Is(n);
+        }
+        from = end + 1;
+    }
+}
+
+fn put(row: &mut [u64], n: usize, x: u64) {
+    if n < row.len() {
+        row[n] = x;
     }
 }
 

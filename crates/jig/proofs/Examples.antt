@@ -30,8 +30,11 @@ use Rattle.lookup.specs.Lookup.{Looked}
 use Rattle.lookup.specs.Lookup as key
 use Rattle.lookup.proofs.Examples as lookup
 use Rattle.fragments.specs.Fragment.{firstAt, nextAt}
+use Rattle.measure.specs.Item.{nil}
+use Rattle.writer.specs.Write.{Left, writeOver}
+use Rattle.writer.proofs.Examples as writer
 use Rattle.fragments.proofs.Examples.{aFirst, aNext, first-whole, first-version, next-whole, next-kind}
-use Rattle.jig.specs.Shown.{Tells, nameWords, headerWords, firstWords, nextWords}
+use Rattle.jig.specs.Shown.{Tells, nameWords, headerWords, firstWords, nextWords, writtenWords}
 use Rattle.headwords.specs.Words.{partWords}
 
 -- sill_part: the bytes of a string are no part. A call that hands out every run says 3 and 1
@@ -95,6 +98,13 @@ first-for-next = ap nextWords next-kind
 
 pub next-told : nextWords (nextAt aNext) ≡ 0 ∷ 18 ∷ 0 ∷ 258 ∷ 2 ∷ []
 next-told = ap nextWords next-whole
+
+-- sill_write: a call that tells the extra before the length says 9, 2, 0; one that leaves out the length says 0, 0, 0
+pub write-room : (x : ℕ) → writtenWords (writeOver (nil ∷ []) (x ∷ []) .answer) ≡ number.Room ∷ 0 ∷ 2 ∷ []
+write-room x = ap (λ (l : Left). writtenWords (l .answer)) (writer.room-first x)
+
+pub write-done : (x y z : ℕ) → writtenWords (writeOver (nil ∷ []) (x ∷ y ∷ z ∷ []) .answer) ≡ number.Done ∷ 2 ∷ 0 ∷ []
+write-done x y z = ap (λ (l : Left). writtenWords (l .answer)) (writer.behind-the-term x y z)
 
 -- sill_utf8: a call that says whether all is good says 0, and one that takes any byte 2; one that counts characters says 1
 pub good-front : goodBytes (97 ∷ 255 ∷ []) ≡ 1

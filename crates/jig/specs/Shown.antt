@@ -13,6 +13,7 @@ use Rattle.cache.specs.declared.Got.the-variants as got
 use Rattle.header.specs.declared.HeaderRead.{HeaderRead}
 use Rattle.fragments.specs.declared.FirstFragment.{FirstFragment}
 use Rattle.fragments.specs.declared.NextFragment.{NextFragment}
+use Rattle.writer.specs.declared.Written.{Written}
 
 -- of a read or a lookup: its number, end, offset, extra, terms begun, deepest nesting and how many segments its path has, in this order
 abbrev pub answerWords : Answer → List ℕ
@@ -49,3 +50,7 @@ firstWords f = f .number ∷ f .rest ∷ f .extra ∷ f .sequence ∷ f .fragmen
 
 abbrev pub nextWords : NextFragment → List ℕ
 nextWords f = f .number ∷ f .rest ∷ f .extra ∷ f .sequence ∷ f .fragment ∷ []
+
+-- of a write: the number, how many bytes were written, the extra
+abbrev pub writtenWords : Written → List ℕ
+writtenWords w = w .number ∷ w .len ∷ w .extra ∷ []

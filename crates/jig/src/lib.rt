@@ -1,6 +1,6 @@
 // The jig: the calls that a program in another language makes. Everything is lent, as runs of numbers, and every answer is told as numbers.
 //
-// It stands over all that reads and judges nothing itself. A call's promise is that of the call beneath it; specs/ says, in one definition
+// It stands over all that reads and writes, and judges nothing itself. A call's promise is that of the call beneath it; specs/ says, in one definition
 // for each kind of answer, how the answer becomes numbers. jig/sillthread.h is the same page for a C program.
 use cache::Cache;
 use cache::Got;
@@ -20,7 +20,9 @@ ghost use Rattle.lookup.specs.Lookup as key;
 ghost use Rattle.cache.specs.Names.{countOf, gotAt};
 ghost use Rattle.header.specs.Header.{headerOver};
 ghost use Rattle.fragments.specs.Fragment.{firstAt, nextAt};
-ghost use Rattle.jig.specs.Shown.{answerWords, pathWords, Tells, nameWords, headerWords, firstWords, nextWords};
+ghost use Rattle.measure.specs.Item.{itemsOf};
+ghost use Rattle.writer.specs.Write.{writeOver};
+ghost use Rattle.jig.specs.Shown.{answerWords, pathWords, Tells, nameWords, headerWords, firstWords, nextWords, writtenWords};
 ghost use Rattle.jig.specs.Shown as spec;
 ghost use Rattle.headwords.specs.Words.{headWords, partWords};
 
@@ -179,6 +181,16 @@ pub extern "C" fn sill_next(b: &[u8], told: &mut [u64; 5])
 {
     let f = fragments::next(b);
     *told = [f.number, f.rest as u64, f.extra, f.sequence, f.fragment];
+}
+
+// Writes a row of items as a term, as writer::write does. Told are number, how many bytes were written, and extra.
+#[no_mangle]
+pub extern "C" fn sill_write(row: &[u64], texts: &[u8], out: &mut [u8], told: &mut [u64; 3])
+    ensures tells { λ _. ⌜ now (told .exit) ≡ writtenWords (writeOver (itemsOf (now (texts .entry)) (now (row .entry))) (now (out .entry)) .answer) ⌝ }
+    ensures writes { λ _. ⌜ now (out .exit) ≡ writeOver (itemsOf (now (texts .entry)) (now (row .entry))) (now (out .entry)) .bytes ⌝ }
+{
+    let w = writer::write(row, texts, out);
+    *told = [w.number, w.len as u64, w.extra];
 }
 
 // How many leading bytes of a text form whole good characters, as utf8::good says.

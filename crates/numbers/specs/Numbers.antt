@@ -1,4 +1,4 @@
--- The numbers the jig shows (document 01), by name, and the list of those that a refusal may bear.
+-- The numbers the jig shows (documents 01 and 02), by name, and the list of those that a refusal may bear.
 use Prim.Native.Nat.{ℕ}
 use mathlib.Core.Path.{_≡_}
 use mathlib.Core.List.{List, [], _∷_}
@@ -56,10 +56,15 @@ Store = 15
 abbrev pub Absent : ℕ
 Absent = 16
 
+-- document 02's, from here on
+abbrev pub Items : ℕ
+Items = 17
+
 -- "A refusal bears a number from document 01 or 02": a request adds its own, in a line before the last
 abbrev pub refusals : List ℕ
 refusals =
     Eof ∷ Tag ∷ Text ∷ Literal ∷ Bits ∷ Size ∷ Trailing ∷ Deep ∷ Room ∷ Long ∷ Name ∷ Version ∷ Kind ∷ Limit ∷ Store ∷ Absent ∷
+    Items ∷
     []
 
 -- whether a number stands in a list, and that it is a refusal's

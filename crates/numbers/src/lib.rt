@@ -1,7 +1,7 @@
 // The numbers the jig shows, the caps of the format, and the two limits of ours: each by name, once in code and once in definitions
 // (specs/), under the same name. It knows no other crate, and every other may know it.
 
-// What a call answers (document 01, "Numbers the jig shows"): Done, or a refusal.
+// What a call answers (document 01, "Numbers the jig shows", and document 02): Done, or a refusal.
 pub const DONE: u64 = 0;
 
 pub const EOF: u64 = 1;
@@ -35,6 +35,9 @@ pub const LIMIT: u64 = 14;
 pub const STORE: u64 = 15;
 
 pub const ABSENT: u64 = 16;
+
+// Document 02's, from here on.
+pub const ITEMS: u64 = 17;
 
 // The caps: the elements of a tuple of tag 105 and of a list, the pairs of a map, the bytes of a binary and of a bit string.
 pub const ELEMENTS: u64 = 10000000;

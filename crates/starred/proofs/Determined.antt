@@ -51,6 +51,9 @@ use Rattle.cache.proofs.part.Reads as cache-part
 use Rattle.header.proofs.read.Reads as header-read
 use Rattle.fragments.proofs.first.Reads as fragments-first
 use Rattle.fragments.proofs.next.Reads as fragments-next
+use Rattle.measure.proofs.needed.Reads as measure-needed
+use Rattle.measure.proofs.owes.Reads as measure-owes
+use Rattle.writer.proofs.write.Reads as writer-write
 use Rattle.jig.proofs.sill_read.Reads as jig-sill-read
 use Rattle.jig.proofs.sill_term.Reads as jig-sill-term
 use Rattle.jig.proofs.sill_find_name.Reads as jig-sill-find-name
@@ -63,6 +66,7 @@ use Rattle.jig.proofs.sill_get.Reads as jig-sill-get
 use Rattle.jig.proofs.sill_header.Reads as jig-sill-header
 use Rattle.jig.proofs.sill_first.Reads as jig-sill-first
 use Rattle.jig.proofs.sill_next.Reads as jig-sill-next
+use Rattle.jig.proofs.sill_write.Reads as jig-sill-write
 use Rattle.jig.proofs.sill_utf8.Reads as jig-sill-utf8
 
 -- a promise, of the lifetimes of what is lent, the arguments, the answer, and the parameters at the end
@@ -133,6 +137,10 @@ pub record Determined : Type 0 where
   pub header-read : Both header-read.Post (λ κ s. s .1 .1 .0 .now)
   pub fragments-first : Answer fragments-first.Post
   pub fragments-next : Answer fragments-next.Post
+  pub measure-needed : Answer measure-needed.Post
+  pub measure-owes : Answer measure-owes.Post
+  -- its third parameter is written to
+  pub writer-write : Both writer-write.Post (λ κ s. s .1 .1 .0 .now)
   -- an exported call tells its answer in runs that are lent: here the numbers told, the path's words and the tape
   pub jig-sill-read : Leaves jig-sill-read.Post ((λ κ s. s .1 .1 .1 .0 .now) ∷ (λ κ s. s .1 .1 .1 .1 .0 .now) ∷ (λ κ s. s .1 .1 .0 .now) ∷ [])
   -- the numbers told and the path's words
@@ -152,6 +160,8 @@ pub record Determined : Type 0 where
   -- the numbers told
   pub jig-sill-first : Leaves jig-sill-first.Post ((λ κ s. s .1 .0 .now) ∷ [])
   pub jig-sill-next : Leaves jig-sill-next.Post ((λ κ s. s .1 .0 .now) ∷ [])
+  -- the numbers told and the bytes
+  pub jig-sill-write : Leaves jig-sill-write.Post ((λ κ s. s .1 .1 .1 .0 .now) ∷ (λ κ s. s .1 .1 .0 .now) ∷ [])
   pub jig-sill-utf8 : Answer jig-sill-utf8.Post
 
 -- two that equal the same; two Booleans that are true where the same holds
@@ -207,6 +217,9 @@ determined = record {
   header-read = λ κ a x y s t p q. (equal (p .0) (q .0), equal (p .1) (q .1));
   fragments-first = λ κ a x y s t p q. equal p q;
   fragments-next = λ κ a x y s t p q. equal p q;
+  measure-needed = λ κ a x y s t p q. equal p q;
+  measure-owes = λ κ a x y s t p q. equal p q;
+  writer-write = λ κ a x y s t p q. (equal (p .0) (q .0), equal (p .1) (q .1));
   jig-sill-read = λ κ a x y s t p q. read-once p q;
   jig-sill-term = λ κ a x y s t p q. told-once (λ _ _ h k. equal h k) p q;
   jig-sill-find-name = λ κ a x y s t p q. told-once (λ _ _ h k. one-answer h k) p q;
@@ -219,5 +232,6 @@ determined = record {
   jig-sill-header = λ κ a x y s t p q. (equal (p .0) (q .0), (equal (p .1 .0) (q .1 .0), equal (p .1 .1) (q .1 .1)));
   jig-sill-first = λ κ a x y s t p q. equal p q;
   jig-sill-next = λ κ a x y s t p q. equal p q;
+  jig-sill-write = λ κ a x y s t p q. (equal (p .0) (q .0), equal (p .1) (q .1));
   jig-sill-utf8 = λ κ a x y s t p q. equal p q;
 }

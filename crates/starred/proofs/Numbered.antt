@@ -19,6 +19,7 @@ use Rattle.lookup.proofs.Meaning as lookup
 use Rattle.cache.proofs.Outcomes.{got-listed, got-shown}
 use Rattle.header.proofs.Outcomes.{header-shown}
 use Rattle.fragments.proofs.Outcomes.{first-shown, next-shown}
+use Rattle.writer.proofs.Writes.{write-shown}
 use Rattle.jig.proofs.Outcomes.{FirstShown, answer-told, head-told, name-told}
 use Rattle.starred.specs.Refusals.{fieldBy, integerBy, rowBy, countedBy, startBy, valueBy, gotBy}
 use Rattle.fields.proofs.be_u8.Reads as fields-be-u8
@@ -40,6 +41,7 @@ use Rattle.cache.proofs.get.Reads as cache-get
 use Rattle.header.proofs.read.Reads as header-read
 use Rattle.fragments.proofs.first.Reads as fragments-first
 use Rattle.fragments.proofs.next.Reads as fragments-next
+use Rattle.writer.proofs.write.Reads as writer-write
 use Rattle.jig.proofs.sill_read.Reads as jig-sill-read
 use Rattle.jig.proofs.sill_term.Reads as jig-sill-term
 use Rattle.jig.proofs.sill_find_name.Reads as jig-sill-find-name
@@ -49,6 +51,7 @@ use Rattle.jig.proofs.sill_get.Reads as jig-sill-get
 use Rattle.jig.proofs.sill_header.Reads as jig-sill-header
 use Rattle.jig.proofs.sill_first.Reads as jig-sill-first
 use Rattle.jig.proofs.sill_next.Reads as jig-sill-next
+use Rattle.jig.proofs.sill_write.Reads as jig-sill-write
 
 -- a promise, of the lifetimes of what is lent, the arguments, the answer, and the parameters at the end
 module _ {L : Type 0} {A R S : L → Type 0} (Promise : (κ : L) → A κ → R κ → S κ → Type 0) where
@@ -91,6 +94,7 @@ pub record Numbered : Type 0 where
   pub header-read : Answers header-read.Post (λ κ r. r .number)
   pub fragments-first : Answers fragments-first.Post (λ κ r. r .number)
   pub fragments-next : Answers fragments-next.Post (λ κ r. r .number)
+  pub writer-write : Answers writer-write.Post (λ κ r. r .number)
   pub jig-sill-read : Tells jig-sill-read.Post (λ κ s. s .1 .1 .1 .0 .now)
   pub jig-sill-term : Tells jig-sill-term.Post (λ κ s. s .1 .1 .1 .0 .now)
   pub jig-sill-find-name : Tells jig-sill-find-name.Post (λ κ s. s .1 .1 .1 .1 .0 .now)
@@ -100,6 +104,7 @@ pub record Numbered : Type 0 where
   pub jig-sill-header : Tells jig-sill-header.Post (λ κ s. s .1 .1 .1 .0 .now)
   pub jig-sill-first : Tells jig-sill-first.Post (λ κ s. s .1 .0 .now)
   pub jig-sill-next : Tells jig-sill-next.Post (λ κ s. s .1 .0 .now)
+  pub jig-sill-write : Tells jig-sill-write.Post (λ κ s. s .1 .1 .1 .0 .now)
 
 begins : (told : List ℕ) → FirstShown told → (n : ℕ) × ((l : List ℕ) × ((told ≡ n ∷ l) × (¬ (n ≡ 0) → Listed n)))
 begins [] h = absurd h
@@ -130,6 +135,7 @@ numbered = record {
   header-read = λ κ a r s p. shown-listed _ (rw (p .0) (header-shown _ _ _));
   fragments-first = λ κ a r s p. shown-listed _ (rw p (first-shown _));
   fragments-next = λ κ a r s p. shown-listed _ (rw p (next-shown _));
+  writer-write = λ κ a r s p. shown-listed _ (rw (p .0) (write-shown _ _));
   jig-sill-read = λ κ a r s p. begins _ (answer-told (λ x q. tape.answer-shown q) p);
   jig-sill-term = λ κ a r s p. begins _ (answer-told (λ x q. rw q (read-shown _ _ _)) p);
   jig-sill-find-name = λ κ a r s p. begins _ (answer-told (λ x q. lookup.answer-shown q) p);
@@ -139,6 +145,7 @@ numbered = record {
   jig-sill-header = λ κ a r s p. begins _ (rw (p .0) (header-shown _ _ _));
   jig-sill-first = λ κ a r s p. begins _ (rw p (first-shown _));
   jig-sill-next = λ κ a r s p. begins _ (rw p (next-shown _));
+  jig-sill-write = λ κ a r s p. begins _ (rw (p .0) (write-shown _ _));
 }
 
 -- What this rules out: a refusal by 0, which would be taken for Done, and a number that the list doesn't have.

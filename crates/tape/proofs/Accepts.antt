@@ -145,7 +145,7 @@ module _ (b : List ℕ) (limit room : ℕ) where
 
 -- a tape that was written: its words at the front, and the old ones behind them
 module _ (t : Tree) (old : List ℕ) {new : List ℕ} (e : new ≡ taped t old) where
-  at-front : Stands new 0 (words t 1 0 0)
+  pub at-front : Stands new 0 (words t 1 0 0)
   unfolding taped
   at-front =
       let m = drop (cellWords * size t) old in

@@ -17,8 +17,8 @@ use Rattle.layouts.specs.Tree.{Tree, Forest, Stands, node, none, more, bytes, b
 use Rattle.layouts.specs.Nodes.{Node}
 use Rattle.layouts.proofs.Stands.{left, right}
 use Rattle.tape.specs.Cells.{cellWords, cellOf, words}
-use Rattle.tape.specs.Inner.Fill.{cell, wordsAll, tagAt}
-use Rattle.tape.specs.Spans.{startAt, endAt, parentAt, sizeAt}
+use Rattle.tape.specs.Inner.Fill.{cell, wordsAll}
+use Rattle.tape.specs.Spans.{tagAt, startAt, endAt, parentAt, sizeAt}
 use Rattle.tape.proofs.Words.{words-node, wordsAll-more, words-length}
 
 -- a number lies before m, or from m on

@@ -26,8 +26,7 @@ use Rattle.layouts.specs.Nodes.{Node, nodes, nodesAll}
 use Rattle.layouts.proofs.Shapes.{unique}
 use Rattle.tape.specs.Cells.{cellWords, cellOf, words, taped}
 use Rattle.tape.specs.Read.{wholeFrom, Promised}
-use Rattle.tape.specs.Spans.{OnePerTerm}
-use Rattle.tape.specs.Inner.Fill.{tagAt}
+use Rattle.tape.specs.Spans.{OnePerTerm, tagAt}
 use Rattle.tape.proofs.Reading.{read-on, whole-refused, whole-trailing, whole-room, whole-done, behind-131}
 
 -- what a promised call answers and leaves, by what the reading behind byte 131 comes to

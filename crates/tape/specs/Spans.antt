@@ -10,7 +10,10 @@ use Rattle.layouts.specs.Nodes.{Node, Lies, nodes}
 use Rattle.tape.specs.Cells.{cellWords, cellOf}
 
 module _ (tape : List ℕ) where
-  -- the words of cell i behind its tag
+  -- the words of cell i
+  abbrev pub tagAt : ℕ → ℕ
+  tagAt i = getD tape (cellWords * i + 0) 0
+
   abbrev pub startAt : ℕ → ℕ
   startAt i = getD tape (cellWords * i + 1) 0
 

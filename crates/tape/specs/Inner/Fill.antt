@@ -2,7 +2,7 @@
 use Prim.Native.Nat.{ℕ, _+_, _*_, _≤_}
 use mathlib.Core.Path.{_≡_}
 use mathlib.Core.List.{List, [], _∷_, flatMap}
-use lib.ListN.{length, getD, set}
+use lib.ListN.{length, set}
 use lib.Seq.{sets}
 use Rattle.numbers.specs.Caps as cap
 use Rattle.layouts.specs.Tree.{Tree, Forest, Stands, bytes, size}
@@ -17,10 +17,6 @@ wordsAll ts p up c = flatMap cellOf (nodesAll ts p up c)
 -- the words of a cell
 abbrev pub cell : (tag start end parent size : ℕ) → List ℕ
 cell tag start end parent size = tag ∷ start ∷ end ∷ parent ∷ size ∷ []
-
--- the tag in cell i
-abbrev pub tagAt : List ℕ → ℕ → ℕ
-tagAt tape i = getD tape (cellWords * i + 0) 0
 
 -- the words of a cell that are known before its children, and those that are known after them
 abbrev pub opened : List ℕ → (cell tag start up : ℕ) → List ℕ

@@ -1,0 +1,11 @@
+pub mod Forests
+pub mod Laid
+pub mod Shape
+pub mod Frames
+pub mod Rows
+pub mod Ahead
+pub mod Passing
+pub mod Items
+pub mod Sizes
+pub mod Coming
+pub mod Examples

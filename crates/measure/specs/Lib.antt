@@ -1,0 +1,3 @@
+pub mod Item
+pub mod Term
+pub mod Inner
