@@ -282,7 +282,7 @@ places(Tree) ->
 
 among(Tree) -> one_of(places(Tree)).
 
-nested() -> good("of all kinds, nested", times(4700, fun() -> tree(one_of([2, 3, 3, 4])) end)).
+nested() -> good("of all kinds, nested", times(7100, fun() -> tree(one_of([2, 3, 3, 4])) end)).
 
 %% Nested so deep at most, and one deeper where an empty list is at the bottom.
 tree(1) -> leaf();
