@@ -3,6 +3,9 @@
  * Number 10 for every call that takes an input: each is made with an input of 16,777,216 bytes, the longest, and of one byte more, which is
  * refused as Long and leaves everything else as it was. The inputs are made of good bytes, so that nothing but the length is at fault.
  *
+ * Number 15 for the two calls that take a store: each is made with stores of other lengths, which are refused as Store before anything else is
+ * looked at and leave the words and every byte as they were, and with one of 65,536 bytes, which does its work.
+ *
  * Numbers 17 and 9 for the writer: its caps, the integers where the tag changes, names, nesting, places and room, each from both sides. A
  * refused write must leave every byte that it is lent, a Done one those behind the term, and that is read back whole.
  *
@@ -15,7 +18,7 @@
 enum { WORDS = 8 * SILL_CELL, PAINT = 0xa5 };
 
 static uint8_t bytes[SILL_LONGEST + 1];
-static uint8_t store[SILL_STORE_BYTES], was_store[SILL_STORE_BYTES];
+static uint8_t store[2 * SILL_STORE_BYTES], was_store[2 * SILL_STORE_BYTES];
 static uint32_t tape[WORDS], was_tape[WORDS];
 static uint64_t told[SILL_HEAD_TOLD], path[SILL_PATH], was_path[SILL_PATH], filled[SILL_FILLED], was_filled[SILL_FILLED];
 static int failed;
@@ -51,6 +54,43 @@ static void expect(const char *call, size_t n, const uint64_t *want, int words, 
                memcmp(filled, was_filled, sizeof filled);
     printf("%-16s %zu bytes: tells %llu first%s\n", call, n, (unsigned long long)told[0], bad ? " AND NOT AS EXPECTED" : "");
     failed |= bad;
+}
+
+/* Paints, and lends a cache that has "a" in slot 5 and nothing else. */
+static void lend(void) {
+    static const uint8_t header[] = {131, 68, 1, 8, 5, 1, 'a'};
+    paint();
+    sill_header(header, sizeof header, filled, store, SILL_STORE_BYTES, told);
+    memset(told, PAINT, sizeof told);
+    memcpy(was_store, store, sizeof store);
+    memcpy(was_filled, filled, sizeof filled);
+}
+
+/* The calls that take a store, each with so many bytes of it: a filled slot and an empty one, and headers that are good, cut and too long. */
+static void stored(size_t n) {
+    const int fits = n == SILL_STORE_BYTES;
+#define STORED(...) (fits ? (const uint64_t[SILL_HEAD_TOLD]){__VA_ARGS__} : (const uint64_t[SILL_HEAD_TOLD]){SILL_STORE})
+    memcpy(bytes, (const uint8_t[]){131, 68, 1, 8, 6, 1, 'b'}, 7);
+    lend();
+    sill_get(filled, store, n, 5, told);
+    expect("sill_get, filled", n, STORED(SILL_DONE, 5 * 256 + 1, 1), SILL_GET_TOLD, 1);
+    lend();
+    sill_get(filled, store, n, 6, told);
+    expect("sill_get, empty", n, STORED(SILL_ABSENT), SILL_GET_TOLD, 1);
+    lend();
+    sill_header(bytes, 7, filled, store, n, told);
+    expect("sill_header", n, STORED(SILL_DONE, 7), SILL_HEADER_TOLD, !fits);
+    if (fits) {
+        sill_get(filled, store, n, 6, told);
+        failed |= told[0] != SILL_DONE || told[2] != 1 || store[told[1]] != 'b' || sill_count(filled) != 2;
+        failed |= memcmp(store + n, was_store + n, sizeof store - n) != 0;
+    }
+    lend();
+    sill_header(bytes, 1, filled, store, n, told);
+    expect("sill_header, cut", n, STORED(SILL_EOF), SILL_HEADER_TOLD, 1);
+    lend();
+    sill_header(bytes, SILL_LONGEST + 1, filled, store, n, told);
+    expect("sill_header, long", n, STORED(SILL_LONG), SILL_HEADER_TOLD, 1);
 }
 
 /* Writing. The texts are in `bytes`, all of it, but where they are said to be fewer. */
@@ -198,6 +238,8 @@ static void shapes(void) {
 }
 
 int main(void) {
+    static const size_t stores[] = {0, 1, SILL_STORE_BYTES - 1, SILL_STORE_BYTES, SILL_STORE_BYTES + 1, 2 * SILL_STORE_BYTES};
+    for (size_t i = 0; i < sizeof stores / sizeof *stores; i++) stored(stores[i]);
     for (size_t n = SILL_LONGEST; n <= SILL_LONGEST + 1; n++) {
         const int fits = n == SILL_LONGEST;
         const uint64_t number = fits ? SILL_DONE : SILL_LONG;
@@ -239,7 +281,7 @@ int main(void) {
         /* a header with one new name, "a" in slot 5, and fragments: what follows them is the rest */
         memcpy(bytes, (const uint8_t[]){131, 68, 1, 8, 5, 1, 'a'}, 7);
         paint();
-        sill_header(bytes, n, filled, store, sizeof store, told);
+        sill_header(bytes, n, filled, store, SILL_STORE_BYTES, told);
         expect("sill_header", n, TOLD(0, 7, 0), SILL_HEADER_TOLD, !fits);
         failed |= sill_count(filled) != (fits ? 1 : 0);
         memcpy(bytes, (const uint8_t[]){131, 69, 0, 0, 0, 0, 0, 0, 0, 2, 0, 0, 0, 0, 0, 0, 0, 3, 4}, 19);
