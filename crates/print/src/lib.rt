@@ -109,6 +109,12 @@ pub fn field(out: &mut [u8], at: usize, name: &[u8], n: u64) -> usize {
     number(out, named, n)
 }
 
+// The same as a line.
+pub fn line(out: &mut [u8], at: usize, name: &[u8], n: u64) -> usize {
+    let put = field(out, at, name, n);
+    text(out, put, b"\n")
+}
+
 // The bits of a double, sixteen letters of hex.
 pub fn bits(out: &mut [u8], at: usize, n: u64) -> usize {
     let mut letters = [0u8; 16];

@@ -11,15 +11,12 @@ ghost use Rattle.tape.specs.Cells.{cellWords};
 // The most bytes of a record.
 const RECORD: usize = 65536;
 
-// Instead of a number of bytes: reading failed.
-const FAILED: usize = usize::MAX;
-
 fn main() {
     let mut input = [0u8; 65537];
     let mut tape = [0u32; 16380];
     let mut out = io::large_buffer();
-    let n = fill(&mut input);
-    if n == FAILED {
+    let n = input::fill(&mut input);
+    if n == input::FAILED {
         print::unread();
         return;
     }
@@ -28,23 +25,6 @@ fn main() {
         return;
     }
     record(&input[..n], &mut tape, &mut out);
-}
-
-// Reads until the buffer is full or the input ends, and answers how many bytes that is.
-fn fill(buf: &mut [u8]) -> usize {
-    let mut n = 0;
-    while n < buf.len() {
-        let got = libc::read(0, &mut buf[n..]);
-        if got < 0 {
-            return FAILED;
-        }
-        let more = io::count(got, &buf[n..]);
-        if more == 0 {
-            break;
-        }
-        n += more;
-    }
-    n
 }
 
 fn record(b: &[u8], tape: &mut [u32], out: &mut [u8]) {
@@ -61,7 +41,7 @@ fn accepted(begun: usize, deepest: usize, tape: &[u32], out: &mut [u8])
     requires { ⌜ cellWords * begun ≤ length (now tape) ⌝ }
 {
     let mut put = counts(numbers::DONE, begun, deepest, out);
-    put = line(out, put, b"cells=", begun as u64);
+    put = print::line(out, put, b"cells=", begun as u64);
     let mut i = 0;
     while i < begun {
         put = cell(i, tape, out, put);
@@ -93,14 +73,14 @@ fn kin(w: usize, tape: &[u32], out: &mut [u8], at: usize) -> usize
     requires { ⌜ w + 2 ≤ length (now tape) ⌝ }
 {
     let put = print::field(out, at, b" parent=", wide(tape[w]));
-    line(out, put, b" size=", wide(tape[w + 1]))
+    print::line(out, put, b" size=", wide(tape[w + 1]))
 }
 
 // A refusal: its number, counts and place, its extra and its path.
 fn refused(a: Answer, out: &mut [u8]) {
     let mut put = counts(a.number, a.begun, a.deepest, out);
-    put = line(out, put, b"offset=", a.offset as u64);
-    put = line(out, put, b"extra=", a.extra);
+    put = print::line(out, put, b"offset=", a.offset as u64);
+    put = print::line(out, put, b"extra=", a.extra);
     put = print::text(out, put, b"path=");
     let path = a.path;
     put = paths::path(out, put, path, a.len);
@@ -111,14 +91,9 @@ fn refused(a: Answer, out: &mut [u8]) {
 }
 
 fn counts(number: u64, begun: usize, deepest: usize, out: &mut [u8]) -> usize {
-    let mut put = line(out, 0, b"answer=", number);
-    put = line(out, put, b"terms=", begun as u64);
-    line(out, put, b"deepest=", deepest as u64)
-}
-
-fn line(out: &mut [u8], at: usize, name: &[u8], n: u64) -> usize {
-    let put = print::field(out, at, name, n);
-    print::text(out, put, b"\n")
+    let mut put = print::line(out, 0, b"answer=", number);
+    put = print::line(out, put, b"terms=", begun as u64);
+    print::line(out, put, b"deepest=", deepest as u64)
 }
 
 fn wide(x: u32) -> u64 {

@@ -1,33 +1,31 @@
 // showtext: what the lowest layer says of a text on standard input, at most 65,536 bytes of it.
 //
 // It prints the bytes, how many leading ones form whole good UTF-8 characters, how many are left without trailing zero bytes, and
-// whether those that are left are a number text (1) or not (0). Longer input is answered as number 10, as the jig's calls do.
-use libc::STDOUT_FILENO;
+// whether those that are left are a number text (1) or not (0). Longer input is answered as number 10, as the jig's calls do. Input that
+// can't be read to its end has no answer: that is said on standard error, as is an output that fails. ./showtext ends with a status then.
 
 fn main() {
     let mut input = [0u8; 65537];
-    let n = io::read_full(0, &mut input);
-    if 65536 < n {
-        line(b"answer=", 10);
+    let mut out = io::buffer();
+    let n = input::fill(&mut input);
+    if n == input::FAILED {
+        print::unread();
         return;
     }
-    show(&input[..n]);
+    if 65536 < n {
+        let put = print::line(&mut out, 0, b"answer=", numbers::LONG);
+        print::flush(&out, put);
+        return;
+    }
+    show(&input[..n], &mut out);
 }
 
-fn show(text: &[u8]) {
-    line(b"bytes=", text.len());
-    line(b"good=", utf8::good(text));
+fn show(text: &[u8], out: &mut [u8]) {
     let left = literal::trim(text);
-    line(b"trimmed=", left);
-    line(b"literal=", truth(literal::literal(&text[..left])));
-}
-
-fn truth(b: bool) -> usize {
-    if b { 1 } else { 0 }
-}
-
-fn line(name: &[u8], n: usize) {
-    io::write_all(STDOUT_FILENO, name);
-    io::print_decimal(STDOUT_FILENO, n as u64);
-    io::write_all(STDOUT_FILENO, b"\n");
+    let number = literal::literal(&text[..left]);
+    let mut put = print::line(out, 0, b"bytes=", text.len() as u64);
+    put = print::line(out, put, b"good=", utf8::good(text) as u64);
+    put = print::line(out, put, b"trimmed=", left as u64);
+    put = print::line(out, put, b"literal=", number as u64);
+    print::flush(out, put);
 }

@@ -26,28 +26,43 @@ pub fn differs(row: &mut [u8], i: usize, answer: u8) -> bool
     before != answer
 }
 
-// Prints a row's runs, ANSWER*COUNT with one space between, and ends the line.
-pub fn print_row(row: &[u8]) {
-    print_runs(row);
-    io::write_all(1, b"\n");
+// What is printed is written at once. Each function takes and answers 0, or print::FAILED, after which nothing is written.
+pub fn text(at: usize, text: &[u8]) -> usize {
+    if at == print::FAILED {
+        return at;
+    }
+    print::flush(text, text.len())
 }
 
-fn print_runs(row: &[u8]) {
+// A number behind its name.
+pub fn field(at: usize, name: &[u8], n: u64) -> usize {
+    let mut out = io::buffer();
+    let put = print::field(&mut out, at, name, n);
+    print::flush(&out, put)
+}
+
+// The same as a line.
+pub fn line(at: usize, name: &[u8], n: u64) -> usize {
+    text(field(at, name, n), b"\n")
+}
+
+// A row's runs, a space and ANSWER*COUNT for each, and the end of the line.
+pub fn print_row(at: usize, row: &[u8]) -> usize {
+    let mut out = io::buffer();
+    let put = print_runs(&mut out, at, row);
+    print::flush(&out, put)
+}
+
+fn print_runs(out: &mut [u8], at: usize, row: &[u8]) -> usize {
+    let mut put = at;
     let mut i = 0;
     while i < row.len() {
         let end = run_end(row, i);
-        print_run(0 < i, row[i], end - i);
+        put = print::field(out, put, b" ", row[i] as u64);
+        put = print::field(out, put, b"*", (end - i) as u64);
         i = end;
     }
-}
-
-fn print_run(further: bool, answer: u8, count: usize) {
-    if further {
-        io::write_all(1, b" ");
-    }
-    io::print_decimal(1, answer as u64);
-    io::write_all(1, b"*");
-    io::print_decimal(1, count as u64);
+    print::text(out, put, b"\n")
 }
 
 // Where the run that begins at i ends.

@@ -9,18 +9,11 @@ ghost use Prim.Native.Nat.{_≤_, _<_};
 ghost use lib.ListN.{length};
 
 fn main() {
-    io::write_all(1, b"texts\n");
-    let count = all_texts();
-    print_count(b"texts=", count);
-    io::write_all(1, b"words\n");
-    let tried = all_words();
-    print_count(b"words=", tried);
-}
-
-fn print_count(name: &[u8], count: u64) {
-    io::write_all(1, name);
-    io::print_decimal(1, count);
-    io::write_all(1, b"\n");
+    let mut at = sweep::text(0, b"texts\n");
+    let count = all_texts(&mut at);
+    at = sweep::text(sweep::line(at, b"texts=", count), b"words\n");
+    let tried = all_words(&mut at);
+    sweep::line(at, b"words=", tried);
 }
 
 // Whether a text without its trailing zero bytes is a number text: 1 where it is, and 0.
@@ -29,131 +22,116 @@ fn judged(s: &[u8]) -> u8 {
     literal::literal(&s[..n]) as u8
 }
 
-// The texts of zero to five letters. Answers how many there were.
-fn all_texts() -> u64 {
-    let mut count = texts(0, 1);
-    count += texts(1, 11);
-    count += texts(2, 121);
-    count += texts(3, 1331);
-    count += texts(4, 14641);
-    count += texts(5, 161051);
+// The texts of zero to five letters. Answers how many there were, as every function below does that tries some; whether the
+// output has failed is lent.
+fn all_texts(at: &mut usize) -> u64 {
+    let mut count = texts(0, 1, at);
+    count += texts(1, 11, at);
+    count += texts(2, 121, at);
+    count += texts(3, 1331, at);
+    count += texts(4, 14641, at);
+    count += texts(5, 161051, at);
     count
 }
 
 // The texts of n letters, of which there are eleven: so many numbers spell them.
-fn texts(n: usize, numbers: usize) -> u64
+fn texts(n: usize, numbers: usize, at: &mut usize) -> u64
     requires { ⌜ n ≤ 5 ⌝ }
     ensures { λ r. ⌜ r ≤ numbers ⌝ }
 {
     let mut text = [0u8; 5];
-    print_accepted(&mut text[..n], b"01.eE+-inf\0", numbers)
+    print_accepted(&mut text[..n], b"01.eE+-inf\0", numbers, at)
 }
 
-// Prints the accepted ones of the texts as long as this one. Answers how many were tried.
-fn print_accepted(text: &mut [u8], letters: &[u8], numbers: usize) -> u64
+// Prints the accepted ones of the texts as long as this one.
+fn print_accepted(text: &mut [u8], letters: &[u8], numbers: usize, at: &mut usize) -> u64
     requires { ⌜ 0 < length (now letters) ⌝ }
     ensures { λ r. ⌜ r ≤ numbers ⌝ }
 {
     let mut number = 0;
     while number < numbers {
         sweep::spell(text, 0, text.len(), letters, number);
-        if judged(text) == 1 {
-            print_text(text);
-        }
+        *at = print_text(*at, text);
         number += 1;
     }
     number as u64
 }
 
-// Prints a text with _ for each zero byte.
-fn print_text(text: &[u8]) {
+// Prints an accepted text, with _ for each zero byte, and nothing of another one.
+fn print_text(at: usize, text: &[u8]) -> usize {
+    if judged(text) == 0 {
+        return at;
+    }
+    let mut put = at;
     let mut i = 0;
     while i < text.len() {
-        print_byte(text[i]);
+        put = sweep::text(put, &[shown(text[i])]);
         i += 1;
     }
-    end_line();
+    sweep::text(put, b"\n")
 }
 
-fn print_byte(byte: u8) {
-    if byte == 0 {
-        io::write_all(1, b"_");
-    } else {
-        io::write_all(1, &[byte]);
-    }
+fn shown(byte: u8) -> u8 {
+    if byte == 0 { b'_' } else { byte }
 }
 
-fn end_line() {
-    io::write_all(1, b"\n");
-}
-
-// A word of three letters has 8 patterns of letter case, one of eight letters has 256. Answers how many texts were tried.
-fn all_words() -> u64 {
-    let mut tried = signed(b"inf", b"+inf", b"-inf", 8);
-    tried += signed(b"infinity", b"+infinity", b"-infinity", 256);
-    tried += signed(b"nan", b"+nan", b"-nan", 8);
+// A word of three letters has 8 patterns of letter case, one of eight letters has 256.
+fn all_words(at: &mut usize) -> u64 {
+    let mut tried = signed(b"inf", b"+inf", b"-inf", 8, at);
+    tried += signed(b"infinity", b"+infinity", b"-infinity", 256, at);
+    tried += signed(b"nan", b"+nan", b"-nan", 8, at);
     tried
 }
 
 // A word with no sign and with both.
-fn signed(bare: &[u8], plus: &[u8], minus: &[u8], patterns: usize) -> u64
+fn signed(bare: &[u8], plus: &[u8], minus: &[u8], patterns: usize, at: &mut usize) -> u64
     requires { ⌜ (length (now bare) ≤ 9) × ((length (now plus) ≤ 9) × ((length (now minus) ≤ 9) × (patterns ≤ 256))) ⌝ }
     ensures { λ r. ⌜ r ≤ 1800000 ⌝ }
 {
-    let mut tried = word(bare, 0, patterns);
-    tried += word(plus, 1, patterns);
-    tried += word(minus, 1, patterns);
+    let mut tried = word(bare, 0, patterns, at);
+    tried += word(plus, 1, patterns, at);
+    tried += word(minus, 1, patterns, at);
     tried
 }
 
 // One word, of which so many bytes are signs.
-fn word(shown: &[u8], signs: usize, patterns: usize) -> u64
+fn word(shown: &[u8], signs: usize, patterns: usize, at: &mut usize) -> u64
     requires { ⌜ (length (now shown) ≤ 9) × ((signs ≤ 1) × (patterns ≤ 256)) ⌝ }
     ensures { λ r. ⌜ r ≤ 600000 ⌝ }
 {
     let n = shown.len();
     let mut text = [0u8; 9];
     let mut row = [0u8; 256];
-    try_word(&mut text[..n], shown, signs, &mut row[..patterns])
+    try_word(&mut text[..n], shown, signs, &mut row[..patterns], at)
 }
 
 // A word whole, cut, and with one byte changed. A place of the row is a pattern.
-fn try_word(text: &mut [u8], shown: &[u8], signs: usize, row: &mut [u8]) -> u64
+fn try_word(text: &mut [u8], shown: &[u8], signs: usize, row: &mut [u8], at: &mut usize) -> u64
     requires { ⌜ (length (now text) ≡ length (now shown)) × ((length (now shown) ≤ 9) × ((signs ≤ 1) × (length (now row) ≤ 256))) ⌝ }
     ensures { λ r. ⌜ r ≤ 600000 ⌝ }
 {
-    io::write_all(1, shown);
-    io::write_all(1, b" whole ");
-    let mut count = cut(text, shown, signs, row, shown.len());
-    count += cuts(text, shown, signs, row);
-    count += changes(text, shown, signs, row.len());
+    let mut count = cut(text, shown, signs, row, shown.len(), at);
+    count += cuts(text, shown, signs, row, at);
+    count += changes(text, shown, signs, row.len(), at);
     count
 }
 
 // The word cut after each number of bytes.
-fn cuts(text: &mut [u8], shown: &[u8], signs: usize, row: &mut [u8]) -> u64
+fn cuts(text: &mut [u8], shown: &[u8], signs: usize, row: &mut [u8], at: &mut usize) -> u64
     requires { ⌜ (length (now text) ≡ length (now shown)) × ((length (now shown) ≤ 9) × ((signs ≤ 1) × (length (now row) ≤ 256))) ⌝ }
     ensures { λ r. ⌜ r ≤ 2304 ⌝ }
 {
     let mut tried = 0;
     let mut n = 0;
     while n < shown.len() {
-        print_cut(shown, n);
-        tried += cut(text, shown, signs, row, n);
+        tried += cut(text, shown, signs, row, n, at);
         n += 1;
     }
     tried
 }
 
-fn print_cut(shown: &[u8], n: usize) {
-    io::write_all(1, shown);
-    io::write_all(1, b" cut ");
-    io::print_decimal(1, n as u64);
-    io::write_all(1, b" ");
-}
-
 // The first n bytes of the word: a row over the patterns.
-fn cut(text: &mut [u8], shown: &[u8], signs: usize, row: &mut [u8], n: usize) -> u64
+fn cut(text: &mut [u8], shown: &[u8], signs: usize, row: &mut [u8], n: usize, at: &mut usize) -> u64
     requires { ⌜ (length (now text) ≡ length (now shown)) × ((n ≤ length (now shown)) × ((signs ≤ 1) × (length (now row) ≤ 256))) ⌝ }
     ensures { λ r. ⌜ r ≤ 256 ⌝ }
 {
@@ -163,26 +141,41 @@ fn cut(text: &mut [u8], shown: &[u8], signs: usize, row: &mut [u8], n: usize) ->
         row[pattern] = judged(&text[..n]);
         pattern += 1;
     }
-    sweep::print_row(row);
+    *at = sweep::print_row(print_cut(*at, shown, n), row);
     pattern as u64
 }
 
+fn print_cut(at: usize, shown: &[u8], n: usize) -> usize {
+    let put = sweep::text(at, shown);
+    if n == shown.len() {
+        return sweep::text(put, b" whole");
+    }
+    sweep::field(put, b" cut ", n as u64)
+}
+
 // The word with each of its bytes changed.
-fn changes(text: &mut [u8], shown: &[u8], signs: usize, patterns: usize) -> u64
+fn changes(text: &mut [u8], shown: &[u8], signs: usize, patterns: usize, at: &mut usize) -> u64
     requires { ⌜ (length (now text) ≡ length (now shown)) × ((length (now shown) ≤ 9) × ((signs ≤ 1) × (patterns ≤ 256))) ⌝ }
     ensures { λ r. ⌜ r ≤ 589824 ⌝ }
 {
     let mut tried = 0;
     let mut place = 0;
     while place < shown.len() {
-        tried += changed(text, shown, signs, patterns, place);
+        tried += changed(text, shown, signs, patterns, place, at);
         place += 1;
     }
     tried
 }
 
 // The word with every byte at one place: a row over that byte for each pattern, printed where it differs from the row before it.
-fn changed(text: &mut [u8], shown: &[u8], signs: usize, patterns: usize, place: usize) -> u64
+fn changed(
+    text: &mut [u8],
+    shown: &[u8],
+    signs: usize,
+    patterns: usize,
+    place: usize,
+    at: &mut usize,
+) -> u64
     requires { ⌜ (length (now text) ≡ length (now shown)) × ((place < length (now shown)) × ((signs ≤ 1) × (patterns ≤ 256))) ⌝ }
     ensures { λ r. ⌜ r ≤ 65536 ⌝ }
 {
@@ -191,10 +184,8 @@ fn changed(text: &mut [u8], shown: &[u8], signs: usize, patterns: usize, place: 
     let mut pattern = 0;
     while pattern < patterns {
         write_word(text, shown, pattern << signs);
-        if renewed(&mut row, text, place) {
-            print_place(shown, place, pattern);
-            sweep::print_row(&row);
-        }
+        let new = renewed(&mut row, text, place);
+        *at = print_changed(*at, new, shown, place, pattern, &row);
         tried += row.len() as u64;
         pattern += 1;
     }
@@ -215,13 +206,22 @@ fn renewed(row: &mut [u8], text: &mut [u8], place: usize) -> bool
     new
 }
 
-fn print_place(shown: &[u8], place: usize, pattern: usize) {
-    io::write_all(1, shown);
-    io::write_all(1, b" changed ");
-    io::print_decimal(1, place as u64);
-    io::write_all(1, b" pattern ");
-    io::print_decimal(1, pattern as u64);
-    io::write_all(1, b" ");
+// Prints the row of a changed byte, if it is new.
+fn print_changed(
+    at: usize,
+    new: bool,
+    shown: &[u8],
+    place: usize,
+    pattern: usize,
+    row: &[u8],
+) -> usize {
+    if !new {
+        return at;
+    }
+    let mut put = sweep::text(at, shown);
+    put = sweep::field(put, b" changed ", place as u64);
+    put = sweep::field(put, b" pattern ", pattern as u64);
+    sweep::print_row(put, row)
 }
 
 // Writes a word with a letter as a capital where its bit is set, the first byte's bit worth least. The two cases differ by 32.

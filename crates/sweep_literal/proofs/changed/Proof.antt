@@ -8,10 +8,10 @@ use Rattle.sweep_literal.proofs.changed.Statement.{statement}
 use Rattle.sweep_literal.proofs.changed.Tie as tie
 
 abbrev Inv-loop : tie.InvT-loop
-Inv-loop text₀ shown signs patterns place row₀ tried₀ pattern₀ text row tried pattern = (pattern ≤ patterns) × ((length text ≡ length text₀) × ((length row ≡ 256) × (tried ≤ 256 * pattern)))
+Inv-loop text₀ shown signs patterns place at₀ row₀ tried₀ pattern₀ text at row tried pattern = (pattern ≤ patterns) × ((length text ≡ length text₀) × ((length row ≡ 256) × (tried ≤ 256 * pattern)))
 
 abbrev μ-loop : tie.MeasureT-loop
-μ-loop text₀ shown signs patterns place row₀ tried₀ pattern₀ text row tried pattern = patterns - pattern
+μ-loop text₀ shown signs patterns place at₀ row₀ tried₀ pattern₀ text at row tried pattern = patterns - pattern
 
 pub changed-spec : {M : Type 1} → statement M
 changed-spec =
@@ -24,7 +24,6 @@ changed-spec =
     (λ c κs. omega arith)
     (λ c. omega arith)
     (λ c κs. omega arith)
-    (λ c κs. search needs)
     (λ c. omega arith)
     (λ c κs. search needs)
     (λ c. omega arith)

@@ -8,10 +8,10 @@ use Rattle.sweep_literal.proofs.changes.Statement.{statement}
 use Rattle.sweep_literal.proofs.changes.Tie as tie
 
 abbrev Inv-loop : tie.InvT-loop
-Inv-loop text₀ shown signs patterns tried₀ place₀ text tried place = (place ≤ length shown) × ((length text ≡ length text₀) × (tried ≤ 65536 * place))
+Inv-loop text₀ shown signs patterns at₀ tried₀ place₀ text at tried place = (place ≤ length shown) × ((length text ≡ length text₀) × (tried ≤ 65536 * place))
 
 abbrev μ-loop : tie.MeasureT-loop
-μ-loop text₀ shown signs patterns tried₀ place₀ text tried place = length shown - place
+μ-loop text₀ shown signs patterns at₀ tried₀ place₀ text at tried place = length shown - place
 
 pub changes-spec : {M : Type 1} → statement M
 changes-spec =

@@ -8,10 +8,10 @@ use Rattle.sweep_literal.proofs.cut.Statement.{statement}
 use Rattle.sweep_literal.proofs.cut.Tie as tie
 
 abbrev Inv-loop : tie.InvT-loop
-Inv-loop text₀ shown signs row₀ n pattern₀ text row pattern = (pattern ≤ length row) × ((length text ≡ length text₀) × (length row ≡ length row₀))
+Inv-loop text₀ shown signs row₀ n at pattern₀ text row pattern = (pattern ≤ length row) × ((length text ≡ length text₀) × (length row ≡ length row₀))
 
 abbrev μ-loop : tie.MeasureT-loop
-μ-loop text₀ shown signs row₀ n pattern₀ text row pattern = length row - pattern
+μ-loop text₀ shown signs row₀ n at pattern₀ text row pattern = length row - pattern
 
 slice-aggregate-judged : tie.Need-slice-aggregate-judged Inv-loop μ-loop
 slice-aggregate-judged c = simp length-take (omega arith)
@@ -38,6 +38,7 @@ cut-spec =
     (λ c. omega arith)
     loop-less
     loop-again
+    (λ c κs. search needs)
     (λ c κs. search needs)
     (λ c. search needs)
     (λ c. search needs)

@@ -8,10 +8,10 @@ use Rattle.sweep_literal.proofs.cuts.Statement.{statement}
 use Rattle.sweep_literal.proofs.cuts.Tie as tie
 
 abbrev Inv-loop : tie.InvT-loop
-Inv-loop text₀ shown signs row₀ tried₀ n₀ text row tried n = (n ≤ length shown) × ((length text ≡ length text₀) × ((length row ≡ length row₀) × (tried ≤ 256 * n)))
+Inv-loop text₀ shown signs row₀ at₀ tried₀ n₀ text row at tried n = (n ≤ length shown) × ((length text ≡ length text₀) × ((length row ≡ length row₀) × (tried ≤ 256 * n)))
 
 abbrev μ-loop : tie.MeasureT-loop
-μ-loop text₀ shown signs row₀ tried₀ n₀ text row tried n = length shown - n
+μ-loop text₀ shown signs row₀ at₀ tried₀ n₀ text row at tried n = length shown - n
 
 pub cuts-spec : {M : Type 1} → statement M
 cuts-spec =
@@ -20,7 +20,6 @@ cuts-spec =
     Inv-loop
     μ-loop
     (λ c. omega arith)
-    (λ c κs. search needs)
     (λ c κs. omega arith)
     (λ c. omega arith)
     (λ c. omega arith)

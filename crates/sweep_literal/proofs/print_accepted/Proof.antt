@@ -8,10 +8,10 @@ use Rattle.sweep_literal.proofs.print_accepted.Statement.{statement}
 use Rattle.sweep_literal.proofs.print_accepted.Tie as tie
 
 abbrev Inv-loop : tie.InvT-loop
-Inv-loop text₀ letters numbers number₀ text number = (number ≤ numbers) × (length text ≡ length text₀)
+Inv-loop text₀ letters numbers at₀ number₀ text at number = (number ≤ numbers) × (length text ≡ length text₀)
 
 abbrev μ-loop : tie.MeasureT-loop
-μ-loop text₀ letters numbers number₀ text number = numbers - number
+μ-loop text₀ letters numbers at₀ number₀ text at number = numbers - number
 
 pub print-accepted-spec : {M : Type 1} → statement M
 print-accepted-spec =
@@ -20,7 +20,6 @@ print-accepted-spec =
     Inv-loop
     μ-loop
     (λ c. omega arith)
-    (λ c κs. search needs)
     (λ c κs. search needs)
     (λ c κs. search needs)
     (λ c. omega arith)

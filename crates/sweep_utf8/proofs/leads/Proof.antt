@@ -8,10 +8,10 @@ use Rattle.sweep_utf8.proofs.leads.Statement.{statement}
 use Rattle.sweep_utf8.proofs.leads.Tie as tie
 
 abbrev Inv-loop : tie.InvT-loop
-Inv-loop text₀ last row₀ strings₀ lead₀ text row strings lead = ((224 ≤ lead) × (lead ≤ 246)) × ((length text ≡ length text₀) × ((length row ≡ length row₀) × (strings ≤ 50176 * (lead - 224))))
+Inv-loop text₀ last row₀ at₀ strings₀ lead₀ text row at strings lead = ((224 ≤ lead) × (lead ≤ 246)) × ((length text ≡ length text₀) × ((length row ≡ length row₀) × (strings ≤ 50176 * (lead - 224))))
 
 abbrev μ-loop : tie.MeasureT-loop
-μ-loop text₀ last row₀ strings₀ lead₀ text row strings lead = 246 - lead
+μ-loop text₀ last row₀ at₀ strings₀ lead₀ text row at strings lead = 246 - lead
 
 rows-requires : tie.Need-rows-requires Inv-loop μ-loop
 rows-requires c κs = simp length-set (omega arith)

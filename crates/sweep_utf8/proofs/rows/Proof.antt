@@ -8,10 +8,10 @@ use Rattle.sweep_utf8.proofs.rows.Statement.{statement}
 use Rattle.sweep_utf8.proofs.rows.Tie as tie
 
 abbrev Inv-loop : tie.InvT-loop
-Inv-loop text₀ from numbers last row₀ end strings₀ number₀ text row strings number = (number ≤ numbers) × ((end < length text) × ((length text ≡ length text₀) × ((length row ≡ length row₀) × (strings ≤ 256 * number))))
+Inv-loop text₀ from numbers last row₀ at₀ end strings₀ number₀ text row at strings number = (number ≤ numbers) × ((end < length text) × ((length text ≡ length text₀) × ((length row ≡ length row₀) × (strings ≤ 256 * number))))
 
 abbrev μ-loop : tie.MeasureT-loop
-μ-loop text₀ from numbers last row₀ end strings₀ number₀ text row strings number = numbers - number
+μ-loop text₀ from numbers last row₀ at₀ end strings₀ number₀ text row at strings number = numbers - number
 
 pub rows-spec : {M : Type 1} → statement M
 rows-spec =

@@ -1,10 +1,10 @@
--- `showterm::fill` is safe and ends: the buffer keeps its length, and each read goes behind the bytes before it. The measure is the bytes left.
+-- `input::fill` is safe and ends: the buffer keeps its length, and each read goes behind the bytes before it. The measure is the bytes left.
 use mathlib.Core.Path.{_≡_}
 use Prim.Native.Nat.{_-_, _≤_}
 use native.Mathlib.Omega.{arith}
 use lib.ListN.{length}
-use Rattle.showterm.proofs.fill.Statement.{statement}
-use Rattle.showterm.proofs.fill.Tie as tie
+use Rattle.input.proofs.fill.Statement.{statement}
+use Rattle.input.proofs.fill.Tie as tie
 
 abbrev Inv-loop : tie.InvT-loop
 Inv-loop buf₀ n₀ buf n = (n ≤ length buf) × (length buf ≡ length buf₀)
