@@ -62,9 +62,11 @@ pub fn unread() {
     ends(b"standard input could not be read\n", b"2");
 }
 
-// What a program says whose record is refused.
-pub fn refused() {
-    io::write_all(STATUS_FILENO, b"1");
+// Writes what waits of an answer that is a refusal, and tells by the status that it is one.
+pub fn refused(out: &[u8], at: usize) {
+    if flush(out, at) != FAILED {
+        io::write_all(STATUS_FILENO, b"1");
+    }
 }
 
 fn ends(text: &[u8], status: &[u8]) {

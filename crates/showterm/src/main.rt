@@ -85,9 +85,7 @@ fn refused(a: Answer, out: &mut [u8]) {
     let path = a.path;
     put = paths::path(out, put, path, a.len);
     put = print::text(out, put, b"\n");
-    if print::flush(out, put) != print::FAILED {
-        print::refused();
-    }
+    print::refused(out, put);
 }
 
 fn counts(number: u64, begun: usize, deepest: usize, out: &mut [u8]) -> usize {

@@ -14,7 +14,7 @@ fn main() {
     }
     if 65536 < n {
         let put = print::line(&mut out, 0, b"answer=", numbers::LONG);
-        print::flush(&out, put);
+        print::refused(&out, put);
         return;
     }
     show(&input[..n], &mut out);
