@@ -40,7 +40,7 @@ fn filled(c: Cache, store: &[u8], slot: u8, out: &mut [u8], at: usize) -> usize 
         Got::Name(_, _) => {
             let mut put = print::field(out, at, b" ", slot as u64);
             put = print::text(out, put, b"=");
-            items::word(cache::part(c, store, slot), out, put)
+            print::word(out, put, cache::part(c, store, slot))
         }
         Got::No(_) => at,
     }
@@ -55,7 +55,7 @@ pub fn get(c: Cache, store: &[u8], slot: usize, out: &mut [u8], at: usize) -> us
     match g {
         Got::Name(place, n) => {
             let put = named(place, n, out, at);
-            items::word(cache::part(c, store, slot as u8), out, put)
+            print::word(out, put, cache::part(c, store, slot as u8))
         }
         Got::No(number) => print::field(out, at, b"answer=", number),
     }

@@ -1,58 +1,55 @@
 // What heads say, as text: an item for each term of a record's value, and a single head (docs/REQUESTS.md).
+//
+// Both are told from a head's words, which headwords has in order: number, tag, offset, extra and five fields, from place 4 on. How they are
+// told stands in a table: by the tag, as the letter that it is in ASCII, the form that print fills with the words.
 use fields::Field;
-use heads::Value;
 ghost use Prim.Native.Nat.{_≤_, _+_};
 ghost use lib.ListN.{length};
 
 // The item of the term at a place. What its children are, their own items say.
 pub fn item(b: &[u8], place: usize, out: &mut [u8], at: usize) -> usize {
     let h = heads::head(b, place);
-    let v = h.value;
-    match v {
-        Value::Integer(n) => integer(n, out, at),
-        Value::NumberText(s, n) => bytes(b"t:", b, s, n, out, at),
-        Value::Double(_, bits) => double(bits, out, at),
-        Value::Atom(_, _) => part(b"a:", b, place, out, at),
-        Value::Tuple(n) => print::field(out, at, b"tuple:", n),
-        Value::Nil => print::text(out, at, b"nil"),
-        Value::String(s, n) => bytes(b"s:", b, s, n, out, at),
-        Value::List(n) => print::field(out, at, b"list:", n),
-        Value::Binary(_, _) => part(b"b:", b, place, out, at),
-        Value::BitString(s, n, k) => bits(k, b, s, n, out, at),
-        Value::Big(s, n, _, negative) => big(negative, b, s, n, out, at),
-        Value::Map(n) => print::field(out, at, b"map:", n),
-        Value::Pid(_, _, id, serial, creation) => pid(id, serial, creation, out, at),
-        Value::Reference(n, _, _, creation, s) => reference(creation, b, s, n, out, at),
-        Value::Port(_, _, id, creation) => port(id, creation, out, at),
-        Value::Export => print::text(out, at, b"fun"),
-        Value::Function(_, arity, s, index, free) => function(arity, b, s, index, free, out, at),
-        Value::No(n, _, _) => print::field(out, at, b"refused:", n),
+    let w = headwords::words(h);
+    if w[0] != 0 {
+        return print::field(out, at, b"refused:", w[0]);
+    }
+    let put = begun(h.tag, &w, out, at);
+    rest(h.tag, &w, b, out, put)
+}
+
+// An item up to where bytes or bits follow.
+fn begun(tag: u8, w: &[u64], out: &mut [u8], at: usize) -> usize {
+    let forms =
+        b"a=i: b=i: F=f: c=t: d=a: v=a: w=a: k=s: m=b: M=bits:#6: n=n: o=n: j=nil l=list:#4 h=tuple:#4 i=tuple:#4 t=map:#4 X=pid:#6:#7:#8 x=port:#6:#7 Z=ref:#7 q=fun p=fn:#5:";
+    print::form(out, at, keyed(forms, tag), w)
+}
+
+// What follows of an item.
+fn rest(tag: u8, w: &[u64], b: &[u8], out: &mut [u8], at: usize) -> usize {
+    match tag {
+        97 | 98 => print::twos(out, at, word(w, 4)),
+        70 => print::bits(out, at, word(w, 4)),
+        77 | 99 | 100 | 107 | 109 | 118 | 119 => bytes(word(w, 4), word(w, 5), b, out, at),
+        110 | 111 => big(w, b, out, at),
+        90 => ids(b, word(w, 8), word(w, 4), out, at),
+        112 => function(w, b, out, at),
+        _ => at,
     }
 }
 
-fn integer(n: i64, out: &mut [u8], at: usize) -> usize {
-    let put = print::text(out, at, b"i:");
-    print::signed(out, put, n)
-}
-
-fn double(bits: u64, out: &mut [u8], at: usize) -> usize {
-    let put = print::text(out, at, b"f:");
-    print::bits(out, put, bits)
-}
-
-// The part of the input that belongs to an atom or a binary.
-fn part(kind: &[u8], b: &[u8], place: usize, out: &mut [u8], at: usize) -> usize {
-    let put = print::text(out, at, kind);
-    print::hex(out, put, heads::part(b, place))
+fn word(w: &[u64], k: usize) -> u64 {
+    if k < w.len() {
+        return w[k];
+    }
+    0
 }
 
 // n bytes from a place on. Were they not there, none would be shown, and the comparison would tell.
-fn bytes(kind: &[u8], b: &[u8], s: usize, n: usize, out: &mut [u8], at: usize) -> usize {
-    let put = print::text(out, at, kind);
-    if fields::has(b, s, n) {
-        return print::hex(out, put, run(b, s, n));
+fn bytes(s: u64, n: u64, b: &[u8], out: &mut [u8], at: usize) -> usize {
+    if fields::has(b, s as usize, n as usize) {
+        return print::hex(out, at, run(b, s as usize, n as usize));
     }
-    put
+    at
 }
 
 fn run(b: &[u8], s: usize, n: usize) -> &[u8]
@@ -62,33 +59,21 @@ fn run(b: &[u8], s: usize, n: usize) -> &[u8]
     &b[s..e]
 }
 
-fn bits(k: u64, b: &[u8], s: usize, n: usize, out: &mut [u8], at: usize) -> usize {
-    let put = print::field(out, at, b"bits:", k);
-    bytes(b":", b, s, n, out, put)
+// The last of its words says whether it is negative.
+fn big(w: &[u64], b: &[u8], out: &mut [u8], at: usize) -> usize {
+    let sign = [sign(word(w, 7)), b':'];
+    let put = print::text(out, at, &sign);
+    bytes(word(w, 4), word(w, 5), b, out, put)
 }
 
-fn big(negative: bool, b: &[u8], s: usize, n: usize, out: &mut [u8], at: usize) -> usize {
-    if negative {
-        return bytes(b"n:-:", b, s, n, out, at);
-    }
-    bytes(b"n:+:", b, s, n, out, at)
-}
-
-fn pid(id: u64, serial: u64, creation: u64, out: &mut [u8], at: usize) -> usize {
-    let mut put = print::field(out, at, b"pid:", id);
-    put = print::field(out, put, b":", serial);
-    print::field(out, put, b":", creation)
-}
-
-fn port(id: u64, creation: u64, out: &mut [u8], at: usize) -> usize {
-    let put = print::field(out, at, b"port:", id);
-    print::field(out, put, b":", creation)
+fn sign(negative: u64) -> u8 {
+    if negative == 0 { b'+' } else { b'-' }
 }
 
 // n ids of four bytes, from a place on.
-fn reference(creation: u64, b: &[u8], s: usize, n: u64, out: &mut [u8], at: usize) -> usize {
-    let mut put = print::field(out, at, b"ref:", creation);
-    let mut place = s;
+fn ids(b: &[u8], s: u64, n: u64, out: &mut [u8], at: usize) -> usize {
+    let mut put = at;
+    let mut place = s as usize;
     let mut left = n;
     while 0 < left {
         put = id(b, place, out, put);
@@ -114,114 +99,65 @@ fn next(place: usize) -> usize {
     place
 }
 
-fn function(
-    arity: u64,
-    b: &[u8],
-    s: usize,
-    index: u64,
-    free: u64,
-    out: &mut [u8],
-    at: usize,
-) -> usize {
-    let mut put = print::field(out, at, b"fn:", arity);
-    put = bytes(b":", b, s, 16, out, put);
-    put = print::field(out, put, b":", index);
-    print::field(out, put, b":", free)
+fn function(w: &[u64], b: &[u8], out: &mut [u8], at: usize) -> usize {
+    let put = bytes(word(w, 6), 16, b, out, at);
+    print::form(out, put, b":#7:#8", w)
 }
 
 // All that the head at a place answers, and the part that belongs to it.
 pub fn head(b: &[u8], place: usize, out: &mut [u8], at: usize) -> usize {
     let h = heads::head(b, place);
-    let v = h.value;
-    if let Value::No(number, offset, extra) = v {
-        return refused(number, h.tag as u64, offset, extra, out, at);
+    let w = headwords::words(h);
+    if w[0] != 0 {
+        return print::form(out, at, b"answer=#0 tag=#1 offset=#2 extra=#3", &w);
     }
-    let put = print::field(out, at, b"answer=0 tag=", h.tag as u64);
-    let named = print::text(out, put, b" fields=");
-    let told = fields_of(v, out, named);
-    let led = print::text(out, told, b" part=");
-    word(heads::part(b, place), out, led)
+    let put = fields_of(h.tag, &w, out, at);
+    let led = print::text(out, put, b" part=");
+    print::word(out, led, heads::part(b, place))
 }
 
-fn refused(number: u64, tag: u64, offset: usize, extra: u64, out: &mut [u8], at: usize) -> usize {
-    let mut put = print::field(out, at, b"answer=", number);
-    put = print::field(out, put, b" tag=", tag);
-    put = print::field(out, put, b" offset=", offset as u64);
-    print::field(out, put, b" extra=", extra)
-}
-
-// Bytes as a word: - where there are none.
-pub fn word(bytes: &[u8], out: &mut [u8], at: usize) -> usize {
-    if bytes.len() == 0 {
-        return print::text(out, at, b"-");
+// A tag and the fields that it has.
+fn fields_of(tag: u8, w: &[u64], out: &mut [u8], at: usize) -> usize {
+    let put = print::form(out, at, b"answer=0 tag=#1 fields=", w);
+    if tag == 97 || tag == 98 {
+        return print::twos(out, put, word(w, 4));
     }
-    print::hex(out, at, bytes)
+    let forms =
+        b"F=#4 h=#4 i=#4 l=#4 t=#4 c=#4,#5 d=#4,#5 v=#4,#5 w=#4,#5 k=#4,#5 m=#4,#5 M=#4,#5,#6 n=#4,#5,#6 o=#4,#5,#6 x=#4,#5,#6,#7 X=#4,#5,#6,#7,#8 Z=#4,#5,#6,#7,#8 p=#4,#5,#6,#7,#8";
+    print::form(out, put, keyed(forms, tag), w)
 }
 
-// A row's fields, in the order in which heads names them.
-fn fields_of(v: Value, out: &mut [u8], at: usize) -> usize {
-    match v {
-        Value::Integer(n) => print::signed(out, at, n),
-        Value::NumberText(s, n) => two(s as u64, n as u64, out, at),
-        Value::Double(_, bits) => print::number(out, at, bits),
-        Value::Atom(s, n) => two(s as u64, n as u64, out, at),
-        Value::Tuple(n) => print::number(out, at, n),
-        Value::Nil => at,
-        Value::String(s, n) => two(s as u64, n as u64, out, at),
-        Value::List(n) => print::number(out, at, n),
-        Value::Binary(s, n) => two(s as u64, n as u64, out, at),
-        Value::BitString(s, n, k) => three(s as u64, n as u64, k, out, at),
-        Value::Big(s, n, sign, _) => three(s as u64, n as u64, sign, out, at),
-        Value::Map(n) => print::number(out, at, n),
-        Value::Pid(s, n, id, serial, creation) => five(
-            s as u64,
-            n as u64,
-            id,
-            serial,
-            creation,
-            out,
-            at,
-        ),
-        Value::Reference(k, s, n, creation, ids) => five(
-            k,
-            s as u64,
-            n as u64,
-            creation,
-            ids as u64,
-            out,
-            at,
-        ),
-        Value::Port(s, n, id, creation) => {
-            let put = two(s as u64, n as u64, out, at);
-            let led = print::text(out, put, b",");
-            two(id, creation, out, led)
+// A table's form for a letter, nothing where it has none. The forms stand behind the letters and =, with spaces between them, and have
+// neither of these two in them.
+fn keyed(table: &[u8], letter: u8) -> &[u8] {
+    let from = begin(table, letter);
+    let to = end(table, from);
+    &table[from..to]
+}
+
+fn begin(table: &[u8], letter: u8) -> usize
+    ensures { λ r. ⌜ r ≤ length (now (table .entry)) ⌝ }
+{
+    let mut i = 1;
+    while i < table.len() {
+        if table[i] == b'=' && table[i - 1] == letter {
+            return i + 1;
         }
-        Value::Export => at,
-        Value::Function(size, arity, s, index, free) => five(
-            size,
-            arity,
-            s as u64,
-            index,
-            free,
-            out,
-            at,
-        ),
-        Value::No(_, _, _) => at,
+        i += 1;
     }
+    table.len()
 }
 
-fn two(a: u64, b: u64, out: &mut [u8], at: usize) -> usize {
-    let put = print::number(out, at, a);
-    print::field(out, put, b",", b)
-}
-
-fn three(a: u64, b: u64, c: u64, out: &mut [u8], at: usize) -> usize {
-    let put = two(a, b, out, at);
-    print::field(out, put, b",", c)
-}
-
-fn five(a: u64, b: u64, c: u64, d: u64, e: u64, out: &mut [u8], at: usize) -> usize {
-    let put = three(a, b, c, out, at);
-    let more = print::field(out, put, b",", d);
-    print::field(out, more, b",", e)
+fn end(table: &[u8], from: usize) -> usize
+    requires { ⌜ from ≤ length (now table) ⌝ }
+    ensures { λ r. ⌜ (from ≤ r) × (r ≤ length (now (table .entry))) ⌝ }
+{
+    let mut i = from;
+    while i < table.len() {
+        if table[i] == b' ' {
+            return i;
+        }
+        i += 1;
+    }
+    i
 }

@@ -97,12 +97,12 @@ pub fn number(out: &mut [u8], at: usize, n: u64) -> usize {
     text(out, at, &digits[..k])
 }
 
-pub fn signed(out: &mut [u8], at: usize, n: i64) -> usize {
-    if n < 0 {
-        let put = text(out, at, b"-");
-        return number(out, put, (-1 - n) as u64 + 1);
+// The number whose two's complement a word is.
+pub fn twos(out: &mut [u8], at: usize, word: u64) -> usize {
+    if 9223372036854775807 < word {
+        return field(out, at, b"-", u64::MAX - word + 1);
     }
-    number(out, at, n as u64)
+    number(out, at, word)
 }
 
 // A number behind its name.
@@ -115,6 +115,46 @@ pub fn field(out: &mut [u8], at: usize, name: &[u8], n: u64) -> usize {
 pub fn line(out: &mut [u8], at: usize, name: &[u8], n: u64) -> usize {
     let put = field(out, at, name, n);
     text(out, put, b"\n")
+}
+
+// A text in which # and a digit stand for one of some numbers, by its place among them.
+pub fn form(out: &mut [u8], at: usize, form: &[u8], numbers: &[u64]) -> usize {
+    let mut put = at;
+    let mut before = 0u8;
+    let mut i = 0;
+    while i < form.len() {
+        let letter = form[i];
+        put = filled(out, put, before, letter, numbers);
+        before = letter;
+        i += 1;
+    }
+    put
+}
+
+// What a letter of a form stands for, by the one before it.
+fn filled(out: &mut [u8], at: usize, before: u8, letter: u8, numbers: &[u64]) -> usize {
+    if letter == b'#' {
+        return at;
+    }
+    if before == b'#' {
+        return nth(out, at, digit(letter), numbers);
+    }
+    text(out, at, &[letter])
+}
+
+fn digit(letter: u8) -> usize {
+    if letter < b'0' {
+        return 0;
+    }
+    (letter - b'0') as usize
+}
+
+// Nothing where there are fewer numbers.
+fn nth(out: &mut [u8], at: usize, k: usize, numbers: &[u64]) -> usize {
+    if k < numbers.len() {
+        return number(out, at, numbers[k]);
+    }
+    at
 }
 
 // The bits of a double, sixteen letters of hex.
@@ -133,6 +173,14 @@ pub fn hex(out: &mut [u8], at: usize, bytes: &[u8]) -> usize {
         i += 1;
     }
     put
+}
+
+// Bytes as a word: - where there are none.
+pub fn word(out: &mut [u8], at: usize, bytes: &[u8]) -> usize {
+    if bytes.len() == 0 {
+        return text(out, at, b"-");
+    }
+    hex(out, at, bytes)
 }
 
 // A byte as two letters.
