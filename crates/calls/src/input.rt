@@ -2,45 +2,6 @@
 ghost use Prim.Native.Nat.{_≤_, _<_};
 ghost use lib.ListN.{length};
 
-// The most letters that a request of 65,536 bytes has: `number`, two numbers of twenty digits, a key of as many letters, four spaces, and
-// two letters for a byte. A row that is to be written has what its texts leave of them.
-pub const LONGEST: usize = 131142;
-
-// Where the bytes in the buffer end, and whether reading failed.
-pub struct Filled {
-    pub end: usize,
-    pub failed: bool,
-}
-
-// Reads once, behind what was kept. Where there is no more to read, a line that was kept gets its end of line.
-pub fn fill(text: &mut [u8], kept: usize) -> Filled
-    requires { ⌜ kept < length (now text) ⌝ }
-    ensures { λ r. ⌜ (kept ≤ r .end) × (r .end ≤ length (now (text .entry))) ⌝ }
-{
-    let m = more(&mut text[kept..]);
-    if m.failed || 0 < m.end || kept == 0 {
-        return Filled {
-            end: kept + m.end,
-            failed: m.failed,
-        };
-    }
-    text[kept] = b'\n';
-    Filled {
-        end: kept + 1,
-        failed: false,
-    }
-}
-
-fn more(room: &mut [u8]) -> Filled
-    ensures { λ r. ⌜ r .end ≤ length (now (room .entry)) ⌝ }
-{
-    let got = libc::read(0, room);
-    Filled {
-        end: io::count(got, room),
-        failed: got < 0,
-    }
-}
-
 // Where the line that begins at `from` ends, `end` where it has no end of line before that.
 pub fn line_end(text: &[u8], from: usize, end: usize) -> usize
     requires { ⌜ (from ≤ end) × (end ≤ length (now text)) ⌝ }
@@ -56,13 +17,37 @@ pub fn line_end(text: &[u8], from: usize, end: usize) -> usize
     i
 }
 
+// Where no whole line is left: writes what waits in `out`, keeps the unfinished line and reads behind it. Answers where the bytes end then, and
+// 0 where nothing follows: there is no more to read, it can't be read, or the output failed.
+pub fn more(text: &mut [u8], from: usize, end: usize, out: &[u8], at: usize) -> usize
+    requires { ⌜ (from ≤ end) × (end ≤ length (now text)) ⌝ }
+    ensures { λ r. ⌜ r ≤ length (now (text .entry)) ⌝ }
+{
+    if print::flush(out, at) == print::FAILED {
+        return 0;
+    }
+    let kept = keep(text, from, end);
+    fill(text, kept)
+}
+
+// The turns that are left behind this one, none where no bytes were read.
+pub fn left(turns: u64, end: usize) -> u64
+    requires { ⌜ 0 < turns ⌝ }
+    ensures { λ r. ⌜ r < turns ⌝ }
+{
+    if end == 0 {
+        return 0;
+    }
+    turns - 1
+}
+
 // Moves an unfinished line to the buffer's start, and answers how many bytes were kept. Of a line that is too long for a request one
 // letter more than the longest request is kept, so that there is room to read on, and that it is too long is still seen.
-pub fn keep(text: &mut [u8], from: usize, end: usize) -> usize
+fn keep(text: &mut [u8], from: usize, end: usize) -> usize
     requires { ⌜ (from ≤ end) × (end ≤ length (now text)) ⌝ }
-    ensures { λ r. ⌜ r ≤ 131143 ⌝ }
+    ensures { λ r. ⌜ r ≤ length (now (text .entry)) ⌝ }
 {
-    let n = least(end - from, LONGEST + 1);
+    let n = least(end - from, asking::LONGEST + 1);
     let mut i = 0;
     while i < n {
         text[i] = text[from + i];
@@ -75,4 +60,41 @@ fn least(a: usize, b: usize) -> usize
     ensures { λ r. ⌜ (r ≤ a) × (r ≤ b) ⌝ }
 {
     if a < b { a } else { b }
+}
+
+// Reads once, behind what was kept, and answers where the bytes end then. Where there is no more, a line that was kept gets its end of line.
+// 0 where nothing follows; that the input can't be read is said.
+fn fill(text: &mut [u8], kept: usize) -> usize
+    requires { ⌜ kept ≤ length (now text) ⌝ }
+    ensures { λ r. ⌜ r ≤ length (now (text .entry)) ⌝ }
+{
+    if kept == text.len() {
+        return 0;
+    }
+    let got = read(&mut text[kept..]);
+    if got.failed {
+        print::unread();
+        return 0;
+    }
+    if 0 < got.count || kept == 0 {
+        return kept + got.count;
+    }
+    text[kept] = b'\n';
+    kept + 1
+}
+
+// How many bytes were read, and whether reading failed.
+struct Got {
+    count: usize,
+    failed: bool,
+}
+
+fn read(room: &mut [u8]) -> Got
+    ensures { λ r. ⌜ r .count ≤ length (now (room .entry)) ⌝ }
+{
+    let got = libc::read(0, room);
+    Got {
+        count: io::count(got, room),
+        failed: got < 0,
+    }
 }

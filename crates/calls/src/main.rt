@@ -2,27 +2,15 @@
 //
 // The oracle answers the same lines from the Rust, so that a comparison is two runs and a diff. Whole lines are taken from what is read,
 // each is answered, and what is left of the last one is kept until more is read. Every line has one answer, the last one also where it
-// has no end of line. The names of headers live from line to line: their record goes from answer to answer by value, and the store that
-// belongs to it is lent.
-mod answers;
-mod asked;
-mod cells;
+// has no end of line. What a line asks is in asking, what is answered in telling, filling and naming.
 mod input;
-mod names;
-mod parts;
-mod requests;
-mod values;
-mod words;
-mod writes;
 
+use asking::Over;
 use cache::Cache;
-ghost use mathlib.Core.Path.{_≡_};
-ghost use Prim.Native.Nat.{_≤_, _<_};
-ghost use lib.ListN.{length};
+use naming::Reached;
 
 fn main() {
     let mut text = [0u8; 262144];
-    let mut bytes = io::large_buffer();
     let mut store = io::large_buffer();
     let mut run = space();
     // a row's numbers, of which a line has hardly room for more, and the bytes that are lent to the writer
@@ -31,7 +19,6 @@ fn main() {
     let mut out = io::large_buffer();
     serve(
         &mut text,
-        &mut bytes,
         &mut store,
         &mut run,
         &mut row,
@@ -41,131 +28,59 @@ fn main() {
 }
 
 // The words of a tape: five for each term that a request of 65,536 bytes can have.
-fn space() -> [u32; 327680]
-    ensures { λ r. ⌜ 327680 ≡ length r ⌝ }
-{
+fn space() -> [u32; 327680] {
     [0; 327680]
 }
 
-// Answers all of standard input.
+// Answers all of standard input. The names of headers live from line to line.
 // A proved loop has to end, and nothing says that the input does: it counts its turns down from a number that no run uses up.
 fn serve(
     text: &mut [u8],
-    bytes: &mut [u8],
     store: &mut [u8],
     run: &mut [u32],
     row: &mut [u64],
     lent: &mut [u8],
     out: &mut [u8],
-)
-    requires { ⌜ (131143 < length (now text)) × (65536 ≤ length (now bytes)) ⌝ }
-{
+) {
     let mut names = cache::empty();
-    let mut kept = 0;
+    let mut from = 0;
+    let mut end = 0;
+    let mut at = 0;
     let mut turns = u64::MAX;
     while 0 < turns {
-        let t = turn(text, kept, names, bytes, store, run, row, lent, out);
-        if t.last {
-            return;
+        let stop = input::line_end(text, from, end);
+        if stop < end {
+            let next = stop + 1;
+            let put = answer(&mut text[from..stop], names, store, run, row, lent, out, at);
+            at = print::text(out, put.at, b"\n");
+            names = put.names;
+            from = next;
+            turns -= 1;
+            continue;
         }
-        kept = t.kept;
-        names = t.names;
-        turns -= 1;
+        end = input::more(text, from, end, out, at);
+        turns = input::left(turns, end);
+        from = 0;
+        at = 0;
     }
 }
 
-// What a turn leaves: how many bytes of an unfinished line were kept, the names, and that no turn follows.
-struct Left {
-    kept: usize,
-    names: Cache,
-    last: bool,
-}
-
-// Reads once, behind what was kept, and answers the lines that are whole then.
-fn turn(
-    text: &mut [u8],
-    kept: usize,
-    names: Cache,
-    bytes: &mut [u8],
+// The answer to a line, without the end of line.
+fn answer(
+    line: &mut [u8],
+    known: Cache,
     store: &mut [u8],
     run: &mut [u32],
     row: &mut [u64],
     lent: &mut [u8],
     out: &mut [u8],
-) -> Left
-    requires { ⌜ (kept < length (now text)) × (65536 ≤ length (now bytes)) ⌝ }
-    ensures { λ r. ⌜ r .kept ≤ 131143 ⌝ }
-{
-    let filled = input::fill(text, kept);
-    if filled.failed {
-        print::unread();
-        return last(names);
-    }
-    let end = filled.end;
-    if end == kept {
-        return last(names);
-    }
-    let gone = lines(text, end, names, bytes, store, run, row, lent, out);
-    let after = gone.names;
-    if gone.failed {
-        return last(after);
-    }
-    Left {
-        kept: input::keep(text, gone.from, end),
-        names: after,
-        last: false,
-    }
-}
-
-fn last(names: Cache) -> Left
-    ensures { λ r. ⌜ r .kept ≡ 0 ⌝ }
-{
-    Left {
-        kept: 0,
-        names,
-        last: true,
-    }
-}
-
-// How far the lines of the buffer are answered: where the unfinished one begins, the names then, and whether the output failed.
-struct Gone {
-    from: usize,
-    names: Cache,
-    failed: bool,
-}
-
-// Answers the lines that end before `end`.
-fn lines(
-    text: &[u8],
-    end: usize,
-    before: Cache,
-    bytes: &mut [u8],
-    store: &mut [u8],
-    run: &mut [u32],
-    row: &mut [u64],
-    lent: &mut [u8],
-    out: &mut [u8],
-) -> Gone
-    requires { ⌜ (end ≤ length (now text)) × (65536 ≤ length (now bytes)) ⌝ }
-    ensures { λ r. ⌜ r .from ≤ end ⌝ }
-{
-    let mut names = before;
-    let mut at = 0;
-    let mut from = 0;
-    let mut stop = input::line_end(text, from, end);
-    while stop < end {
-        let next = stop + 1;
-        let line = &text[from..stop];
-        let put = requests::request(line, names, bytes, store, run, row, lent, out, at);
-        at = put.at;
-        names = put.names;
-        from = next;
-        stop = input::line_end(text, from, end);
-    }
-    let failed = print::flush(out, at) == print::FAILED;
-    Gone {
-        from,
-        names,
-        failed,
+    at: usize,
+) -> Reached {
+    let over = asking::which(line);
+    match over {
+        Over::Names => naming::answer(line, known, store, out, at),
+        Over::Cells => naming::with(filling::cells::answer(line, run, out, at), known),
+        Over::Row => naming::with(filling::writes::answer(line, row, lent, out, at), known),
+        Over::Bytes => naming::with(telling::answer(line, out, at), known),
     }
 }

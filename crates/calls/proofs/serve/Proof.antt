@@ -1,16 +1,20 @@
--- `calls::serve` is safe and ends: the buffers keep their lengths, and what is kept leaves room to read on. The measure is the turns left.
+-- `calls::serve` is safe and ends: what is read and not answered yet lies within the buffer, and the lent memory keeps its lengths. The measure is the turns left. Assumes nothing.
 use mathlib.Core.Path.{_≡_}
 use Prim.Native.Nat.{_≤_}
-use lib.ListN.{length}
+use native.Mathlib.Omega.{arith}
 use borrow.Author.Needs.{needs}
+use lib.ListN.{length}
 use Rattle.calls.proofs.serve.Statement.{statement}
 use Rattle.calls.proofs.serve.Tie as tie
 
 abbrev Inv-loop : tie.InvT-loop
-Inv-loop text₀ bytes₀ store₀ run₀ row₀ lent₀ out₀ names₀ kept₀ turns₀ text bytes store run row lent out names kept turns = (kept ≤ 131143) × ((length text ≡ length text₀) × ((length bytes ≡ length bytes₀) × ((length store ≡ length store₀) × ((length run ≡ length run₀) × ((length row ≡ length row₀) × ((length lent ≡ length lent₀) × (length out ≡ length out₀)))))))
+Inv-loop text₀ store₀ run₀ row₀ lent₀ out₀ names₀ from₀ end₀ at₀ turns₀ t15 text store run row lent out names from end at turns = (from ≤ end) × ((end ≤ length text) × ((length text ≡ length text₀) × ((length store ≡ length store₀) × ((length run ≡ length run₀) × ((length row ≡ length row₀) × ((length lent ≡ length lent₀) × (length out ≡ length out₀)))))))
 
 abbrev μ-loop : tie.MeasureT-loop
-μ-loop text₀ bytes₀ store₀ run₀ row₀ lent₀ out₀ names₀ kept₀ turns₀ text bytes store run row lent out names kept turns = turns
+μ-loop text₀ store₀ run₀ row₀ lent₀ out₀ names₀ from₀ end₀ at₀ turns₀ t15 text store run row lent out names from end at turns = turns
+
+loop-again : tie.Need-loop-again Inv-loop μ-loop
+loop-again c = omega (arith, c .before .before .before .before .before .before .before .before .before .before .before .before .before .before .before .before .before .before .answer .kept, c .before .before .before .before .before .before .before .before .before .before .before .before .before .before .before .before .before .before .before .before .before .before .before .before .before .if1 .taken, c .before .before .before .before .before .before .before .before .before .before .before .before .before .before .before .before .before .before .before .before .before .before .before .before .before .before .before .before .before .loop .inv)
 
 pub serve-spec : {M : Type 1} → statement M
 serve-spec =
@@ -25,12 +29,14 @@ serve-spec =
     (λ c. search needs)
     (λ c. search needs)
     (λ c. search needs)
+    (λ c κs. search needs)
+    (λ c. search needs)
+    (λ c κs. search needs)
     (λ c. search needs)
     (λ c. search needs)
-    (λ c. search needs)
-    (λ c. search needs)
-    (λ c. search needs)
-    (λ c. search needs)
+    loop-again
+    (λ c κs. search needs)
+    (λ c κs. search needs)
     (λ c. search needs)
     (λ c. search needs)
     (λ c. search needs)

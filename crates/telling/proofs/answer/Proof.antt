@@ -1,0 +1,21 @@
+-- `telling::answer` is safe: the bytes asked about are a part of the line. Assumes nothing.
+use native.Mathlib.Omega.{arith}
+use borrow.Author.Needs.{needs}
+use lib.ListN.{length-take}
+use Rattle.telling.proofs.answer.Statement.{statement}
+use Rattle.telling.proofs.answer.Tie as tie
+
+slice-aggregate-told : tie.Need-slice-aggregate-told
+slice-aggregate-told c = simp length-take (omega arith)
+
+pub answer-spec : {M : Type 1} → statement M
+answer-spec =
+    tie.close
+    (tie.spec
+    (λ c κs. search needs)
+    (λ c. search needs)
+    slice-aggregate-told
+    (λ c κs. search needs)
+    (λ c. search needs)
+    (λ c. search needs)
+    (λ c. search needs))
