@@ -5,5 +5,6 @@ pub mod Marks
 pub mod Stores
 pub mod Slots
 pub mod Views
+pub mod Lawful
 pub mod Outcomes
 pub mod Examples

@@ -52,7 +52,7 @@ marked-below w i h =
     (or-lt 64 (getD w (i / 64) 0) (2 ^ (i % 64)) (h (i / 64)) (pow-lt {j = 64} (mod-lt i (zero-lt-suc 63))))
 
 -- no slot of an empty cache is filled
-no-word : (n k : ℕ) → _≡_ {A = ℕ} (getD (replicate n 0) k 0) 0
+pub no-word : (n k : ℕ) → _≡_ {A = ℕ} (getD (replicate n 0) k 0) 0
 no-word zero k = refl
 no-word (suc n) zero = refl
 no-word (suc n) (suc k) = no-word n k

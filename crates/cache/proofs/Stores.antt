@@ -10,8 +10,7 @@ use borrow.Author.Tests.{ltb-true, ltb-false}
 use lib.Dec.{ltb}
 use lib.ListN.{length, getD, set, take, drop}
 use lib.Seq.{sets, sets-eq, length-sets, length-take-le, getD-at, drop-at, take-at, drop-drop, getD-set-other, drop-set-lt, drop-set-add, take-set-le}
-use Rattle.cache.specs.Names.{slotBytes, stored, storeBytes}
-use Rattle.cache.specs.Inner.Map.{nameIn}
+use Rattle.cache.specs.Names.{slotBytes, stored, storeBytes, nameIn}
 use Rattle.cache.proofs.Below.{Below, sets-below}
 
 -- what no write within a run changes, the run of writes doesn't change

@@ -1,5 +1,5 @@
--- The cache as a map: a name put into a slot is what that slot holds, and every other slot holds what it held; an empty cache holds nothing;
--- and what asking for a slot answers is what the slot holds. Assumes nothing.
+-- The slots as a map: a name put into a slot is what that slot holds, and every other slot holds what it held; what asking for a slot answers is
+-- what the slot holds; an empty cache holds nothing. Assumes nothing.
 use Prim.Native.Nat.{ℕ, _+_, _*_, _≤_, _<_}
 use mathlib.Core.Path.{_≡_, refl, sym, ap, _∙_}
 use mathlib.Core.Bool.{Bool, true, false, cond, _||_}
@@ -8,8 +8,9 @@ use borrow.Author.Tests.{eqb-true, eqb-false, eq-eqb}
 use lib.Dec.{eqb}
 use lib.ListN.{length, getD, replicate}
 use Rattle.numbers.specs.Numbers as number
-use Rattle.cache.specs.Names.{slotBytes, storeBytes, filled, marked, stored, gotAt, partOf}
-use Rattle.cache.specs.Inner.Map.{nameIn, Held, nothing, name, view, updated}
+use Rattle.names.specs.Form.{Held, nothing, name}
+use Rattle.names.specs.Inner.Map.{updated}
+use Rattle.cache.specs.Names.{slotBytes, storeBytes, filled, marked, stored, nameIn, view, gotAt, partOf}
 use Rattle.cache.specs.declared.Got.{Got}
 use Rattle.cache.specs.declared.Got.the-variants as got
 use Rattle.cache.proofs.Below.{Below}

@@ -1,13 +1,15 @@
--- The name cache: which slots are filled, what storing a name does, and what a slot answers. Document 01, "Name cache".
+-- The name cache in slots, a form of cache: which slots are filled, what storing a name does, and what a slot answers. Document 01, "Name cache".
 use Prim.Native.Nat.{ℕ, zero, suc, _+_, _*_, _^_, _/_, _%_}
 use mathlib.Core.List.{List, [], _∷_}
 use mathlib.Core.Bool.{Bool, cond}
 use lib.Bits.{bitOr}
 use lib.Count.{ones}
-use lib.Dec.{eqb}
+use lib.Dec.{eqb, leb}
 use lib.ListN.{length, getD, set, take, drop}
 use lib.Seq.{sets}
 use Rattle.numbers.specs.Numbers as number
+use Rattle.names.specs.Form.{Held, nothing, name, Put, done, no, Form}
+use Rattle.cache.specs.declared.Cache.{Cache}
 use Rattle.cache.specs.declared.Got.{Got}
 use Rattle.cache.specs.declared.Got.the-variants as got
 
@@ -37,6 +39,27 @@ marked words i = set words (i / 64) (bitOr (getD words (i / 64) 0) (2 ^ (i % 64)
 
 unfoldable pub stored : List ℕ → ℕ → List ℕ → List ℕ
 stored store i n = sets store (i * slotBytes) (length n ∷ n)
+
+-- so what a slot holds
+unfoldable pub nameIn : List ℕ → ℕ → List ℕ
+nameIn store i = take (getD store (i * slotBytes) 0) (drop (i * slotBytes + 1) store)
+
+unfoldable pub view : (words store : List ℕ) → ℕ → Held
+view words store i = cond (filled words i) (name (nameIn store i)) nothing
+
+-- and the slots are a form of cache, the record and the lent store together. A longer name is Name, "name over 255 bytes"
+pub record Slots : Type 0 where
+  pub cache : Cache
+  pub store : List ℕ
+
+unfoldable pub put : Slots → ℕ → List ℕ → Put Slots
+put s i n =
+    cond (leb (length n) 255)
+    (done (record { cache = record { filled = marked (s .cache .filled) i }; store = stored (s .store) i n }))
+    (no number.Name 0)
+
+abbrev pub slots : Form
+slots = record { State = Slots; held = λ s. view (s .cache .filled) (s .store); put = put }
 
 -- "A get by slot (a byte) answers the name's place, Store or Absent": the place and the length
 unfoldable pub gotAt : (words store : List ℕ) → ℕ → Got

@@ -23,9 +23,10 @@ use Rattle.agree.proofs.HeadIs.{head-is, run-is}
 use Rattle.cache.specs.declared.Cache.{Cache}
 use Rattle.cache.specs.Names.{storeBytes, filled, countOf, gotAt}
 use Rattle.cache.specs.declared.Cache.{Cache}
-use Rattle.header.specs.Header.{putAll, headerOver}
+use Rattle.references.proofs.Examples as references
+use Rattle.names.specs.Form.{putAll}
+use Rattle.header.specs.Header.{headerOver, answerOf}
 use Rattle.cache.proofs.Examples as cache
-use Rattle.header.proofs.Examples as header
 use Rattle.lookup.specs.Lookup.{Looked}
 use Rattle.lookup.specs.Lookup as key
 use Rattle.lookup.proofs.Examples as lookup
@@ -74,9 +75,9 @@ module _ (rest : List ℕ) (h : length rest ≡ 65534) where
   no-name = rw (eq-eqb (length (1 ∷ 97 ∷ rest)) storeBytes (omega arith)) refl
 
 -- sill_header: a call that tells the extra before the rest says 13, 69, 0
-pub header-kind : (c : Cache) (s : List ℕ) → length s ≡ storeBytes → headerWords (headerOver (131 ∷ 69 ∷ []) c s .answer) ≡ number.Kind ∷ 0 ∷ 69 ∷ []
+pub header-kind : (c : Cache) (s : List ℕ) → length s ≡ storeBytes → headerWords (answerOf (headerOver (131 ∷ 69 ∷ []) c s)) ≡ number.Kind ∷ 0 ∷ 69 ∷ []
 unfolding headerOver putAll
-header-kind c s h = rw (eq-eqb (length s) storeBytes h, header.examples .kind)
+header-kind c s h = rw (eq-eqb (length s) storeBytes h, references.examples .kind)
 
 -- the lookups: a call that looks for another number finds none; one that looks for the front of a name finds it
 pub number-found : {told old new : List ℕ} → Tells (Looked (131 ∷ 116 ∷ 0 ∷ 0 ∷ 0 ∷ 1 ∷ 98 ∷ 255 ∷ 255 ∷ 255 ∷ 255 ∷ 106 ∷ []) 1 64 (key.number (negsuc 0))) told old new → (getD told 0 0 ≡ 0) × (getD told 2 0 ≡ 11)

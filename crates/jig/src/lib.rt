@@ -18,7 +18,7 @@ ghost use Rattle.agree.specs.Head.{headOf, runAt};
 ghost use Rattle.lookup.specs.Lookup.{Looked};
 ghost use Rattle.lookup.specs.Lookup as key;
 ghost use Rattle.cache.specs.Names.{countOf, gotAt};
-ghost use Rattle.header.specs.Header.{headerOver};
+ghost use Rattle.header.specs.Header.{headerOver, answerOf};
 ghost use Rattle.fragments.specs.Fragment.{firstAt, nextAt};
 ghost use Rattle.measure.specs.Item.{itemsOf};
 ghost use Rattle.writer.specs.Write.{writeOver};
@@ -146,9 +146,9 @@ pub extern "C" fn sill_header(
     store: &mut [u8],
     told: &mut [u64; 3],
 )
-    ensures tells { λ _. ⌜ now (told .exit) ≡ headerWords (headerOver (now (b .entry)) (record { filled = now (filled .entry) }) (now (store .entry)) .answer) ⌝ }
-    ensures marks { λ _. ⌜ now (filled .exit) ≡ headerOver (now (b .entry)) (record { filled = now (filled .entry) }) (now (store .entry)) .answer .cache .filled ⌝ }
-    ensures stores { λ _. ⌜ now (store .exit) ≡ headerOver (now (b .entry)) (record { filled = now (filled .entry) }) (now (store .entry)) .store ⌝ }
+    ensures tells { λ _. ⌜ now (told .exit) ≡ headerWords (answerOf (headerOver (now (b .entry)) (record { filled = now (filled .entry) }) (now (store .entry)))) ⌝ }
+    ensures marks { λ _. ⌜ now (filled .exit) ≡ headerOver (now (b .entry)) (record { filled = now (filled .entry) }) (now (store .entry)) .cache .cache .filled ⌝ }
+    ensures stores { λ _. ⌜ now (store .exit) ≡ headerOver (now (b .entry)) (record { filled = now (filled .entry) }) (now (store .entry)) .cache .store ⌝ }
 {
     let words = *filled;
     let h = header::read(b, Cache { filled: words }, store);

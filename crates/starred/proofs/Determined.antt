@@ -44,6 +44,9 @@ use Rattle.layouts.proofs.inner_at.Reads as layouts-inner-at
 use Rattle.tape.proofs.read.Reads as tape-read
 use Rattle.lookup.proofs.find_name.Reads as lookup-find-name
 use Rattle.lookup.proofs.find_number.Reads as lookup-find-number
+use Rattle.references.proofs.start.Reads as references-start
+use Rattle.references.proofs.is_new.Reads as references-is-new
+use Rattle.references.proofs.reference_at.Reads as references-reference-at
 use Rattle.cache.proofs.empty.Reads as cache-empty
 use Rattle.cache.proofs.count.Reads as cache-count
 use Rattle.cache.proofs.get.Reads as cache-get
@@ -129,6 +132,9 @@ pub record Determined : Type 0 where
   pub tape-read : Both tape-read.Post (λ κ s. s .1 .1 .0 .now)
   pub lookup-find-name : Answer lookup-find-name.Post
   pub lookup-find-number : Answer lookup-find-number.Post
+  pub references-start : Answer references-start.Post
+  pub references-is-new : Answer references-is-new.Post
+  pub references-reference-at : Answer references-reference-at.Post
   pub cache-empty : Answer cache-empty.Post
   pub cache-count : Answer cache-count.Post
   pub cache-get : Answer cache-get.Post
@@ -210,6 +216,9 @@ determined = record {
   tape-read = λ κ a x y s t p q. tape.determined p q;
   lookup-find-name = λ κ a x y s t p q. one-answer p q;
   lookup-find-number = λ κ a x y s t p q. one-answer p q;
+  references-start = λ κ a x y s t p q. equal p q;
+  references-is-new = λ κ a x y s t p q. equal p q;
+  references-reference-at = λ κ a x y s t p q. equal p q;
   cache-empty = λ κ a x y s t p q. equal p q;
   cache-count = λ κ a x y s t p q. equal p q;
   cache-get = λ κ a x y s t p q. equal p q;

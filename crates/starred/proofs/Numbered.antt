@@ -16,12 +16,13 @@ use Rattle.reading.proofs.Outcomes.{cause-listed, read-shown}
 use Rattle.heads.proofs.Outcomes.{value-listed, head-shown}
 use Rattle.tape.proofs.Accepts as tape
 use Rattle.lookup.proofs.Meaning as lookup
+use Rattle.references.proofs.Outcomes.{opening-listed, start-shown, reference-listed, of-reference}
 use Rattle.cache.proofs.Outcomes.{got-listed, got-shown}
 use Rattle.header.proofs.Outcomes.{header-shown}
 use Rattle.fragments.proofs.Outcomes.{first-shown, next-shown}
 use Rattle.writer.proofs.Writes.{write-shown}
 use Rattle.jig.proofs.Outcomes.{FirstShown, answer-told, head-told, name-told}
-use Rattle.starred.specs.Refusals.{fieldBy, integerBy, rowBy, countedBy, startBy, valueBy, gotBy}
+use Rattle.starred.specs.Refusals.{fieldBy, integerBy, rowBy, countedBy, startBy, valueBy, openingBy, referenceBy, gotBy}
 use Rattle.fields.proofs.be_u8.Reads as fields-be-u8
 use Rattle.fields.proofs.be_u16.Reads as fields-be-u16
 use Rattle.fields.proofs.be_u32.Reads as fields-be-u32
@@ -37,6 +38,8 @@ use Rattle.heads.proofs.head.Reads as heads-head
 use Rattle.tape.proofs.read.Reads as tape-read
 use Rattle.lookup.proofs.find_name.Reads as lookup-find-name
 use Rattle.lookup.proofs.find_number.Reads as lookup-find-number
+use Rattle.references.proofs.start.Reads as references-start
+use Rattle.references.proofs.reference_at.Reads as references-reference-at
 use Rattle.cache.proofs.get.Reads as cache-get
 use Rattle.header.proofs.read.Reads as header-read
 use Rattle.fragments.proofs.first.Reads as fragments-first
@@ -90,6 +93,8 @@ pub record Numbered : Type 0 where
   pub tape-read : Answers tape-read.Post (λ κ r. r .number)
   pub lookup-find-name : Answers lookup-find-name.Post (λ κ r. r .number)
   pub lookup-find-number : Answers lookup-find-number.Post (λ κ r. r .number)
+  pub references-start : Refuses references-start.Post (λ κ r. openingBy r)
+  pub references-reference-at : Refuses references-reference-at.Post (λ κ r. referenceBy r)
   pub cache-get : Refuses cache-get.Post (λ κ r. gotBy r)
   pub header-read : Answers header-read.Post (λ κ r. r .number)
   pub fragments-first : Answers fragments-first.Post (λ κ r. r .number)
@@ -131,6 +136,8 @@ numbered = record {
   tape-read = λ κ a r s p. shown-listed _ (tape.answer-shown p);
   lookup-find-name = λ κ a r s p. shown-listed _ (lookup.answer-shown p);
   lookup-find-number = λ κ a r s p. shown-listed _ (lookup.answer-shown p);
+  references-start = λ κ a r s p n h. opening-listed n (h .0) (rw p (start-shown _)) (h .1);
+  references-reference-at = λ κ a r s p n h. reference-listed n (h .0) (rw p (of-reference _ _ _ _)) (h .1);
   cache-get = λ κ a r s p n h. got-listed n (rw p (got-shown _ _ _)) h;
   header-read = λ κ a r s p. shown-listed _ (rw (p .0) (header-shown _ _ _));
   fragments-first = λ κ a r s p. shown-listed _ (rw p (first-shown _));

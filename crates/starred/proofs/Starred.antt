@@ -29,9 +29,11 @@ use Rattle.lookup.specs.Lookup.{Looked, number as integer}
 use Rattle.lookup.proofs.Examples.{last-wins}
 use Rattle.cache.specs.declared.Cache.{Cache}
 use Rattle.cache.specs.Names.{storeBytes, gotAt, partOf}
-use Rattle.header.specs.Header.{Left, putAll, headerOver}
+use Rattle.references.proofs.Examples as references
+use Rattle.names.specs.Form.{Left, after, putAll}
+use Rattle.cache.specs.Names.{Slots, put}
 use Rattle.cache.proofs.Views.{put-part}
-use Rattle.header.proofs.Examples as header
+use Rattle.header.specs.Header.{headerOver}
 
 -- a read that is refused, at an offset, with so many terms begun; and one that is Done where there is room for its cells
 abbrev Refused : List ℕ → (limit number offset extra begun deepest : ℕ) → List Segment → Type 0
@@ -41,10 +43,10 @@ abbrev Done : List ℕ → (limit words : ℕ) → Type 0
 Done b limit words = (room : ℕ) → words ≤ room → readAll b limit room .number ≡ 0
 
 -- a header that is Done, with the rest at 7, and leaves "a" in slot 5
-pub record Heads (l : Left) : Type 0 where
-  pub done : l .answer .number ≡ 0
-  pub rest : l .answer .rest ≡ 7
-  pub slot : partOf (l .store) (gotAt (l .answer .cache .filled) (l .store) 5) ≡ 97 ∷ []
+pub record Heads (l : Left Slots) : Type 0 where
+  pub done : l .number ≡ 0
+  pub rest : l .rest ≡ 7
+  pub slot : partOf (l .cache .store) (gotAt (l .cache .cache .filled) (l .cache .store) 5) ≡ 97 ∷ []
 
 pub record Starred : Type 0 where
   -- "empty: Eof at 0. 131: Eof at 1. 130: Tag at 0, terms 0."
@@ -71,21 +73,21 @@ pub record Starred : Type 0 where
   pub found : (r : Answer) → Looked (131 ∷ 116 ∷ 0 ∷ 0 ∷ 0 ∷ 2 ∷ 97 ∷ 1 ∷ 97 ∷ 7 ∷ 98 ∷ 0 ∷ 0 ∷ 0 ∷ 1 ∷ 97 ∷ 8 ∷ []) 1 64 (integer (pos 1)) r → (r .number ≡ 0) × (r .offset ≡ 15)
   -- "header 131 68 1 8 5 1 97: slot 5 is "a", rest at 7; 131 68 1 9 5 1 97: Eof." Over any cache
   pub header : (c : Cache) (store : List ℕ) → length (c .filled) ≡ 4 → length store ≡ storeBytes → Heads (headerOver (131 ∷ 68 ∷ 1 ∷ 8 ∷ 5 ∷ 1 ∷ 97 ∷ []) c store)
-  pub long-header : (c : Cache) (store : List ℕ) → length store ≡ storeBytes → headerOver (131 ∷ 68 ∷ 1 ∷ 9 ∷ 5 ∷ 1 ∷ 97 ∷ []) c store .answer .number ≡ number.Eof
+  pub long-header : (c : Cache) (store : List ℕ) → length store ≡ storeBytes → headerOver (131 ∷ 68 ∷ 1 ∷ 9 ∷ 5 ∷ 1 ∷ 97 ∷ []) c store .number ≡ number.Eof
 
 minus-one : headAt (131 ∷ 98 ∷ 255 ∷ 255 ∷ 255 ∷ 255 ∷ []) 1 ≡ record { tag = 98; value = value.Integer (negsuc 0) }
 unfolding headAt head.term head.rowValue head.fixed rowAt row.bytes holds fieldAt beAt be signed
 minus-one = refl
 
 one-name : (c : Cache) (store : List ℕ) → length (c .filled) ≡ 4 → length store ≡ storeBytes → Heads (headerOver (131 ∷ 68 ∷ 1 ∷ 8 ∷ 5 ∷ 1 ∷ 97 ∷ []) c store)
-unfolding headerOver putAll
+unfolding headerOver putAll after put
 one-name c store h k =
-    rw (eq-eqb (length store) storeBytes k, header.examples .one)
+    rw (eq-eqb (length store) storeBytes k, references.examples .one)
     (record { done = refl; rest = refl; slot = put-part (c .filled) store 5 (97 ∷ []) h k (omega arith) (omega arith) })
 
-eof : (c : Cache) (store : List ℕ) → length store ≡ storeBytes → headerOver (131 ∷ 68 ∷ 1 ∷ 9 ∷ 5 ∷ 1 ∷ 97 ∷ []) c store .answer .number ≡ number.Eof
+eof : (c : Cache) (store : List ℕ) → length store ≡ storeBytes → headerOver (131 ∷ 68 ∷ 1 ∷ 9 ∷ 5 ∷ 1 ∷ 97 ∷ []) c store .number ≡ number.Eof
 unfolding headerOver putAll
-eof c store k = rw (eq-eqb (length store) storeBytes k, header.examples .long)
+eof c store k = rw (eq-eqb (length store) storeBytes k, references.examples .long)
 
 pub starred : Starred
 unfolding readAll recordIn wholeFrom ended readAt starts answer behind bitsThen bitsByte

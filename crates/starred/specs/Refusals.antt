@@ -16,6 +16,10 @@ use Rattle.reading.specs.declared.Start.the-variants as start
 use Rattle.reading.specs.Answer.{numberOf}
 use Rattle.heads.specs.declared.Value.{Value}
 use Rattle.heads.specs.declared.Value.the-variants as value
+use Rattle.references.specs.declared.Opening.{Opening}
+use Rattle.references.specs.declared.Opening.the-variants as opening
+use Rattle.references.specs.declared.Reference.{Reference}
+use Rattle.references.specs.declared.Reference.the-variants as ref
 use Rattle.cache.specs.declared.Got.{Got}
 use Rattle.cache.specs.declared.Got.the-variants as got
 
@@ -36,6 +40,12 @@ startBy r n = (c : Cause) × ((r ≡ start.No c) × (n ≡ numberOf c))
 
 abbrev pub valueBy : Value → ℕ → Type 0
 valueBy r n = (o x : ℕ) × (r ≡ value.No n o x)
+
+abbrev pub openingBy : Opening → ℕ → Type 0
+openingBy r n = (x : ℕ) × (r ≡ opening.No n x)
+
+abbrev pub referenceBy : Reference → ℕ → Type 0
+referenceBy r n = (x : ℕ) × (r ≡ ref.No n x)
 
 abbrev pub gotBy : Got → ℕ → Type 0
 gotBy r n = r ≡ got.No n

@@ -1,0 +1,4 @@
+pub mod Maps
+pub mod Going
+pub mod Outcomes
+pub mod Examples
