@@ -2,12 +2,12 @@
 //
 // The oracle answers the same lines from the Rust, so that a comparison is two runs and a diff. Whole lines are taken from what is read,
 // each is answered, and what is left of the last one is kept until more is read. Every line has one answer, the last one also where it
-// has no end of line. What a line asks is in asking, what is answered in telling, filling and naming.
-mod input;
-
+// has no end of line. What a line asks is in asking, what is answered in naming, telling, taping and
+// writing.
 use asking::Over;
 use cache::Cache;
 use naming::Reached;
+ghost use Prim.Native.Nat.{_<_};
 
 fn main() {
     let mut text = [0u8; 262144];
@@ -48,7 +48,7 @@ fn serve(
     let mut at = 0;
     let mut turns = u64::MAX;
     while 0 < turns {
-        let stop = input::line_end(text, from, end);
+        let stop = lines::stop(text, from, end);
         if stop < end {
             let next = stop + 1;
             let put = answer(&mut text[from..stop], names, store, run, row, lent, out, at);
@@ -58,11 +58,22 @@ fn serve(
             turns -= 1;
             continue;
         }
-        end = input::more(text, from, end, out, at);
-        turns = input::left(turns, end);
+        end = lines::more(text, from, end, out, at);
+        turns = left(turns, end);
         from = 0;
         at = 0;
     }
+}
+
+// The turns that are left behind this one, none where nothing follows.
+fn left(turns: u64, end: usize) -> u64
+    requires { ⌜ 0 < turns ⌝ }
+    ensures { λ r. ⌜ r < turns ⌝ }
+{
+    if end == 0 {
+        return 0;
+    }
+    turns - 1
 }
 
 // The answer to a line, without the end of line.
@@ -79,8 +90,8 @@ fn answer(
     let over = asking::which(line);
     match over {
         Over::Names => naming::answer(line, known, store, out, at),
-        Over::Cells => naming::with(filling::cells::answer(line, run, out, at), known),
-        Over::Row => naming::with(filling::writes::answer(line, row, lent, out, at), known),
+        Over::Cells => naming::with(taping::answer(line, run, out, at), known),
+        Over::Row => naming::with(writing::answer(line, row, lent, out, at), known),
         Over::Bytes => naming::with(telling::answer(line, out, at), known),
     }
 }

@@ -1,4 +1,4 @@
--- `naming::all` meets its contract: the buffer keeps its length. The measure is the slots left.
+-- `naming::all` meets its contract: the buffer keeps its length. The measure is the slots left. Assumes nothing.
 use mathlib.Core.Path.{_≡_}
 use Prim.Native.Nat.{_≤_, _-_}
 use native.Mathlib.Omega.{arith}

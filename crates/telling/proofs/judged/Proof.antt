@@ -1,4 +1,4 @@
--- `telling::judged` is safe: what is left of a text is a part of it.
+-- `telling::judged` is safe: what is left of a text is a part of it. Assumes nothing.
 use native.Mathlib.Omega.{arith}
 use borrow.Author.Needs.{needs}
 use lib.ListN.{length-take}

@@ -1,4 +1,4 @@
--- `asking::words::below` is safe: what lies below a number that fits, fits.
+-- `asking::words::below` is safe: what lies below a number that fits, fits. Assumes nothing.
 use native.Mathlib.Omega.{arith}
 use borrow.Author.Needs.{needs}
 use Prim.Native.Nat.{_-_}

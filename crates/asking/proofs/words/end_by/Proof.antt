@@ -1,4 +1,4 @@
--- `asking::words::end_by` meets its contract: the place lies between `from` and the text's end. The measure is the letters left.
+-- `asking::words::end_by` meets its contract: the place lies between `from` and the text's end. The measure is the letters left. Assumes nothing.
 use Prim.Native.Nat.{_≤_, _-_}
 use native.Mathlib.Omega.{arith}
 use lib.ListN.{length}

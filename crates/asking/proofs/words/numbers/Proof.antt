@@ -1,4 +1,4 @@
--- `asking::words::numbers` is safe and ends: a number takes a letter at least, and the row keeps its length. The measure is the letters left.
+-- `asking::words::numbers` is safe and ends: a number takes a letter at least, and the row keeps its length. The measure is the letters left. Assumes nothing.
 use mathlib.Core.Path.{_≡_}
 use Prim.Native.Nat.{_≤_, _-_}
 use native.Mathlib.Omega.{arith}

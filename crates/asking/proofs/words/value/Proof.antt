@@ -1,4 +1,4 @@
--- `asking::words::value` is safe and ends: a digit is added only where the number then fits. The measure is the letters left.
+-- `asking::words::value` is safe and ends: a digit is added only where the number then fits. The measure is the letters left. Assumes nothing.
 use Prim.Native.Nat.{_≤_, _-_}
 use native.Mathlib.Omega.{arith}
 use borrow.Author.Needs.{needs}
