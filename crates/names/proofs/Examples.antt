@@ -1,5 +1,5 @@
--- Forms beside the slots. A map itself is a lawful one, which takes every name. One that walks past a name, and one that forgets the other
--- slots, are none over any cache that has an empty slot, or two slots. Assumes nothing.
+-- Forms beside the slots. A map itself is a lawful one, which takes every name. One that walks past a name isn't, over any cache in which a slot
+-- is empty, and one that forgets the other slots isn't, over any in which one holds a name. Assumes nothing.
 use Prim.Native.Nat.{ℕ, _<_}
 use native.Mathlib.Omega.{arith}
 use mathlib.Core.Path.{_≡_, refl, sym, ap}
