@@ -457,7 +457,8 @@ void plain_header(const uint8_t *b, size_t len, uint64_t filled[4], uint8_t *sto
     if (n == 0) return tell_header(told, SILL_DONE, 3, 0);
     if (len < p) return tell_header(told, SILL_EOF, 0, 0);
     const uint8_t *flags = b + 3;
-    size_t width = flags[n / 2] & 1 ? 2 : 1;
+    /* by the bit worth 1 of the half byte after the last reference */
+    size_t width = flags[n / 2] >> (n % 2 ? 4 : 0) & 1 ? 2 : 1;
     for (size_t i = 0; i < n; i++) {
         if (len <= p) return tell_header(told, SILL_EOF, 0, 0);
         size_t slot = b[p++];

@@ -160,9 +160,10 @@ size_t sill_count(const uint64_t filled[4]);
 /* The name in a slot. Told: number, its place in the store, its length, both 0 when refused. Refused: Store, Absent. */
 void sill_get(const uint64_t filled[4], const uint8_t *store, size_t store_len, uint8_t slot, uint64_t told[3]);
 
-/* Reads an atom header: 131, 68, a count, flags and references. Told: number, where the rest begins (0 when refused), extra. Each new name
- * goes into its slot, and the slot's bit into `filled`, when it is complete; a fault behind it keeps it. Refused: Store, Long (neither
- * stores anything), then Eof, Tag, Kind, and for a name Eof, Text, Name. */
+/* Reads an atom header: 131, 68, a count, flags and references. A name's length has two bytes where the half byte after the last reference has
+ * the bit worth 1, else one: that is the bit worth 1 of the last flag byte for an even count, the bit worth 16 for an odd one. Segment numbers are
+ * ignored. Told: number, where the rest begins (0 when refused), extra. Each new name goes into its slot, and the slot's bit into `filled`, when
+ * it is complete; a fault behind it keeps it. Refused: Store, Long (neither stores anything), then Eof, Tag, Kind, and for a name Eof, Text, Name. */
 void sill_header(const uint8_t *b, size_t len, uint64_t filled[4], uint8_t *store, size_t store_len, uint64_t told[3]);
 
 /* Reads the header of a message's first fragment: 131, 69. Told: number, where the rest begins, extra, sequence, fragment, count of names;

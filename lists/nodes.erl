@@ -9,7 +9,7 @@
 
 -define(LOOPBACK, {127, 0, 0, 1}).
 %% So many bytes are kept of a message; of a header never less than all. What a header or a fragment is answered doesn't depend on the body
-%% behind it. Only where our reading takes a header for longer than it is (docs/DIFFERENCES.md) may the whole message have another answer.
+%% behind it.
 -define(KEPT, 1000).
 -define(KEPT_OF_FRAGMENT, 60).
 %% OTP takes this many places of the cache, so that atoms whose numbers differ by it push each other out.

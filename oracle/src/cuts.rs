@@ -1,5 +1,6 @@
 //! Headers of every count of references, with lengths of one byte and of
-//! two, new and old references mixed; of some counts each header cut at
+//! two, new and old references mixed, and for an odd count with either bit
+//! where the Rust looks for the long bit; of some counts each header cut at
 //! every byte, and with each of its names made bad. What names are there
 //! is asked now and then.
 
@@ -9,8 +10,9 @@ use crate::header;
 const NAMES: [&str; 5] = ["", "a", "spannung", "\u{e9}", "\u{20ac}\u{1f50b}"];
 
 /// A header of so many references, and where its names begin. Two of three
-/// are new; slots and names differ from reference to reference.
-fn whole(count: usize, wide: bool) -> (Vec<u8>, Vec<usize>) {
+/// are new; slots and names differ from reference to reference. Of an odd
+/// count the last reference has segment 1 or 0.
+fn whole(count: usize, wide: bool, segment: bool) -> (Vec<u8>, Vec<usize>) {
     let mut input = vec![131, 68, count as u8];
     let mut names = Vec::new();
     if count == 0 {
@@ -21,7 +23,10 @@ fn whole(count: usize, wide: bool) -> (Vec<u8>, Vec<usize>) {
     for index in (0..count).filter(|&index| new(index)) {
         flags[index / 2] |= 8 << (4 * (index % 2));
     }
-    flags[count / 2] |= u8::from(wide);
+    flags[count / 2] |= u8::from(wide) << (4 * (count % 2));
+    if count % 2 == 1 {
+        flags[count / 2] |= u8::from(segment);
+    }
     input.extend(&flags);
     for index in 0..count {
         input.push((index * 7 + count) as u8);
@@ -41,8 +46,11 @@ fn whole(count: usize, wide: bool) -> (Vec<u8>, Vec<usize>) {
 pub fn requests() -> impl Iterator<Item = String> {
     (0..=255).flat_map(|count| {
         let mut requests = Vec::new();
-        for wide in [false, true] {
-            let (input, names) = whole(count, wide);
+        for (wide, segment) in [(false, false), (true, true), (false, true), (true, false)] {
+            if count % 2 == 0 && wide != segment {
+                continue;
+            }
+            let (input, names) = whole(count, wide, segment);
             requests.push(header(&input));
             if count <= 24 || count >= 254 {
                 requests.extend((0..input.len()).map(|end| header(&input[..end])));

@@ -2,7 +2,8 @@
 //! programs line by line. THEIRS are the oracle's, OURS those of the program
 //! that COMMAND runs, after `oracle folded`. It counts what was compared, and
 //! makes each difference smaller before it is printed. It ends with 1 where
-//! anything differs.
+//! anything differs. With the word `meant` before all, THEIRS are those of
+//! `oracle meant`.
 
 #[allow(dead_code)]
 mod hex;
@@ -23,14 +24,17 @@ const ALIKE: usize = 2;
 
 fn main() {
     let words: Vec<String> = std::env::args().skip(1).collect();
-    let [requests, ours, theirs, command @ ..] = words.as_slice() else {
+    let is_meant = words.first().is_some_and(|word| word == "meant");
+    let (asking, words) = words.split_at(usize::from(is_meant));
+    let [requests, ours, theirs, command @ ..] = words else {
         return usage();
     };
     if command.is_empty() {
         return usage();
     }
-    let compared = compare([requests, ours, theirs])
-        .and_then(|compared| report(&compared, command).map(|()| compared.different));
+    let compared = compare([requests, ours, theirs]).and_then(|compared| {
+        report(&compared, &Programs::new(asking, command)?).map(|()| compared.different)
+    });
     match compared {
         Ok(0) => {}
         Ok(_) => std::process::exit(1),
@@ -42,7 +46,7 @@ fn main() {
 }
 
 fn usage() {
-    eprintln!("usage: differ REQUESTS OURS THEIRS COMMAND...");
+    eprintln!("usage: differ [meant] REQUESTS OURS THEIRS COMMAND...");
     std::process::exit(2);
 }
 
@@ -117,9 +121,8 @@ impl Compared {
     }
 }
 
-fn report(compared: &Compared, command: &[String]) -> io::Result<()> {
-    let programs = Programs::new(command)?;
-    let shrunk = shrink::all(&programs, &compared.cases)?;
+fn report(compared: &Compared, programs: &Programs) -> io::Result<()> {
+    let shrunk = shrink::all(programs, &compared.cases)?;
     let mut times: Vec<(&Case, usize)> = Vec::new();
     for case in &shrunk {
         match times.iter_mut().find(|(other, _)| other.is_same(case)) {
@@ -140,9 +143,11 @@ fn report(compared: &Compared, command: &[String]) -> io::Result<()> {
     for (word, kind) in &compared.kinds {
         println!("  {word} {} {}", kind.compared, kind.accepted);
     }
-    println!("terms in the accepted values, by tag:");
-    for tag in make::TAGS {
-        println!("  {tag} {}", compared.tags.get(&tag).unwrap_or(&0));
+    if compared.kinds.contains_key("term") {
+        println!("terms in the accepted values, by tag:");
+        for tag in make::TAGS {
+            println!("  {tag} {}", compared.tags.get(&tag).unwrap_or(&0));
+        }
     }
     println!("{} left out as Deep or long", compared.outside);
     println!("{} different", compared.different);

@@ -2,6 +2,10 @@
 //! it. The Rust has no call that stops at the header's end, so the end is
 //! found from outside: it is the one place where a single Nil put after the
 //! bytes before it makes the whole input decode to that Nil.
+//!
+//! Where the Rust looks for the long bit at another place than document 02,
+//! and the two bits differ, a header is outside, or asked about as it is
+//! meant.
 
 use crate::decoder::{AtomCache, decode_with_atom_cache};
 use crate::numbers;
@@ -11,26 +15,48 @@ use crate::types::Atom;
 const NIL: u8 = 106;
 const LONGEST_NAME: usize = 255;
 
+/// How the Rust is asked about a header in which the two bits differ.
+#[derive(Clone, Copy, PartialEq)]
+pub enum Asking {
+    /// Not at all: it is outside.
+    AsItStands,
+    /// With the Rust's bit set as document 02's is.
+    AsMeant,
+}
+
 /// The names, and the requests that change or show them.
-pub struct Names(AtomCache);
+pub struct Names {
+    asking: Asking,
+    cache: AtomCache,
+}
 
 impl Names {
-    pub fn new() -> Self {
-        Names(AtomCache::new())
+    pub fn new(asking: Asking) -> Self {
+        let cache = AtomCache::new();
+        Names { asking, cache }
+    }
+
+    pub fn clear(&mut self) {
+        self.cache = AtomCache::new();
     }
 
     /// The filled slots in rising order.
     pub fn filled(&self) -> impl Iterator<Item = (u8, &Atom)> {
-        (0..=255).filter_map(|slot| Some((slot, self.0.get(slot)?)))
+        (0..=255).filter_map(|slot| Some((slot, self.cache.get(slot)?)))
     }
 
     pub fn read(&mut self, input: &[u8]) -> String {
         if input.len() >= 2 && input[0] == 131 && input[1] != 68 {
             return "outside".into();
         }
+        let meant = meant(input);
+        if self.asking == Asking::AsItStands && meant != input {
+            return "outside".into();
+        }
+        let input = &meant[..];
         let layout = Layout::of(input);
         let end = end(input, &layout);
-        let mut cache = self.0.clone();
+        let mut cache = self.cache.clone();
         let answer = match end {
             Some(end) => {
                 assert!(is_nil(&[&input[..end], &[NIL]].concat(), &mut cache));
@@ -43,7 +69,7 @@ impl Names {
                 format!("answer={number} rest=0 extra={extra}")
             }
         };
-        let advanced = Names(cache);
+        let advanced = Names { cache, ..*self };
         let too_long = advanced.filled().any(|(_, name)| name.len() > LONGEST_NAME);
         if layout.long_name || too_long {
             return "outside".into();
@@ -51,6 +77,23 @@ impl Names {
         *self = advanced;
         answer
     }
+}
+
+/// The header in which the Rust reads what document 02 means by this one.
+///
+/// Lengths have two bytes by the bit worth 1 in the half byte after the last
+/// reference. The Rust asks the bit worth 1 of the last flag byte, which for
+/// an even count is the same. For an odd one it belongs to a segment number,
+/// which the Rust looks at for nothing else, and it is set as the bit worth
+/// 16 is.
+fn meant(input: &[u8]) -> Vec<u8> {
+    let mut meant = input.to_vec();
+    if let [131, 68, count, flags @ ..] = &mut meant[..] {
+        if let (1, Some(last)) = (*count % 2, flags.get_mut(usize::from(*count / 2))) {
+            *last = *last & !1 | *last >> 4 & 1;
+        }
+    }
+    meant
 }
 
 /// Where the header ends, none where the Rust refuses it.
@@ -82,8 +125,8 @@ fn is_nil(input: &[u8], cache: &mut AtomCache) -> bool {
     )
 }
 
-/// What the bytes look like when walked by document 01's layout: a guess,
-/// which the Rust confirms or not.
+/// What the bytes look like when walked by the Rust's layout: a guess, which
+/// the Rust confirms or not.
 struct Layout {
     found: Found,
     /// A name of more than 255 bytes was completed, replaced or not.

@@ -42,7 +42,7 @@ fn main() {
     let words: Vec<&str> = words.iter().map(String::as_str).collect();
     let Some(requests) = requests(&words) else {
         eprintln!("usage: inputs short, inputs bounds, inputs cuts, or inputs KIND SEED COUNT");
-        eprintln!("KIND: valid, damaged, headers, fragments, texts, all");
+        eprintln!("KIND: valid, damaged, headers, odd, fragments, texts, all");
         std::process::exit(1);
     };
     match print(requests) {
@@ -66,6 +66,7 @@ fn requests(words: &[&str]) -> Option<Box<dyn Iterator<Item = String>>> {
                 "valid" => wild::valid,
                 "damaged" => wild::damaged,
                 "headers" => wild::headers,
+                "odd" => wild::odd,
                 "fragments" => wild::fragments,
                 "texts" => wild::texts,
                 "all" => wild::all,

@@ -45,12 +45,13 @@ fn main() {
     let words: Vec<String> = std::env::args().skip(1).collect();
     let words: Vec<&str> = words.iter().map(String::as_str).collect();
     let work: fn() -> std::io::Result<()> = match words.as_slice() {
-        [] => requests::serve,
+        [] => requests::as_they_stand,
+        ["meant"] => requests::as_meant,
         ["folded"] => folded::serve,
         ["sweep", "utf8"] => sweep::utf8,
         ["sweep", "literal"] => sweep::literal,
         _ => {
-            eprintln!("usage: oracle < REQUESTS, oracle folded < ANSWERS, oracle sweep utf8, oracle sweep literal");
+            eprintln!("usage: oracle < REQUESTS, oracle meant < REQUESTS, oracle folded < ANSWERS, oracle sweep utf8, oracle sweep literal");
             std::process::exit(1);
         }
     };

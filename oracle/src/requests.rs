@@ -1,13 +1,21 @@
 //! One answer line for each request line; docs/REQUESTS.md has the forms.
 
-use crate::header::Names;
+use crate::header::{Asking, Names};
 use crate::{fragment, hex, reading, text};
 use std::io::{self, BufRead, BufReader, BufWriter, Write};
 
-pub fn serve() -> io::Result<()> {
+pub fn as_they_stand() -> io::Result<()> {
+    serve(Asking::AsItStands)
+}
+
+pub fn as_meant() -> io::Result<()> {
+    serve(Asking::AsMeant)
+}
+
+fn serve(asking: Asking) -> io::Result<()> {
     let mut requests = BufReader::with_capacity(1 << 16, io::stdin().lock());
     let mut answers = BufWriter::new(io::stdout().lock());
-    let mut names = Names::new();
+    let mut names = Names::new(asking);
     let mut line = Vec::new();
     while requests.read_until(b'\n', &mut line)? > 0 {
         if line.last() == Some(&b'\n') {
@@ -29,7 +37,7 @@ fn answer(line: &[u8], names: &mut Names) -> Option<String> {
     match line {
         "names" => return Some(show(names)),
         "clear" => {
-            *names = Names::new();
+            names.clear();
             return Some(show(names));
         }
         _ => {}

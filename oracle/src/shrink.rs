@@ -287,17 +287,20 @@ fn still(case: &Case, lines: Vec<Line>, answers: &[(String, String)]) -> Option<
 /// The two programs, run on files of requests.
 pub struct Programs<'a> {
     oracle: PathBuf,
+    /// Words for the oracle.
+    asking: &'a [String],
     command: &'a [String],
     requests: PathBuf,
 }
 
 impl Programs<'_> {
     /// The oracle lies beside this program.
-    pub fn new(command: &[String]) -> io::Result<Programs<'_>> {
+    pub fn new<'a>(asking: &'a [String], command: &'a [String]) -> io::Result<Programs<'a>> {
         let oracle = std::env::current_exe()?.with_file_name("oracle");
         let name = format!("differ.{}", std::process::id());
         Ok(Programs {
             oracle,
+            asking,
             command,
             requests: std::env::temp_dir().join(name),
         })
@@ -346,6 +349,7 @@ impl Programs<'_> {
 
     fn theirs(&self) -> io::Result<String> {
         let answers = Command::new(&self.oracle)
+            .args(self.asking)
             .stdin(File::open(&self.requests)?)
             .output()?;
         Ok(String::from_utf8_lossy(&answers.stdout).into_owned())

@@ -22,14 +22,27 @@ pub fn damaged(random: &mut Random) -> String {
     term(&input)
 }
 
+/// Headers whose long bit is the one worth 1 of the last flag byte, as the
+/// Rust has it; document 02 has another for an odd count.
 pub fn headers(random: &mut Random) -> String {
+    some_headers(random, |count| (count, 1))
+}
+
+/// Headers of odd counts, with document 02's long bit.
+pub fn odd(random: &mut Random) -> String {
+    some_headers(random, |count| (count | 1, 16))
+}
+
+/// By a drawn count, the count to take and what the long bit is worth in the
+/// last flag byte.
+fn some_headers(random: &mut Random, by_count: fn(usize) -> (usize, u8)) -> String {
     if random.once_in(25) {
         return "clear".into();
     }
     if random.once_in(6) {
         return "names".into();
     }
-    let mut input = some_header(random);
+    let mut input = some_header(random, by_count);
     if random.once_in(3) {
         damage(random, &mut input);
     }
@@ -369,8 +382,9 @@ fn digits(random: &mut Random, text: &mut String, count: usize) {
     }
 }
 
-/// A header as document 01 lays it out, and some bytes after it.
-fn some_header(random: &mut Random) -> Bytes {
+/// A header as document 01 lays it out, with its long bit, and some bytes
+/// after it.
+fn some_header(random: &mut Random, by_count: fn(usize) -> (usize, u8)) -> Bytes {
     let count = match random.below(12) {
         0 => 0,
         1 => random.below(256),
@@ -378,15 +392,16 @@ fn some_header(random: &mut Random) -> Bytes {
         3..=4 => random.below(32),
         _ => random.between(1, 5),
     };
+    let (count, long) = by_count(count);
     let mut input = vec![131, 68, count as u8];
     if count > 0 {
         let mut flags = random.bytes(count / 2 + 1);
         if random.once_in(2) {
             // Without segment numbers, and mostly with short lengths.
             flags.iter_mut().for_each(|byte| *byte &= 0x88);
-            *flags.last_mut().expect("a flag byte") |= u8::from(random.once_in(4));
+            *flags.last_mut().expect("a flag byte") |= long * u8::from(random.once_in(4));
         }
-        let wide = flags[flags.len() - 1] & 1 != 0;
+        let wide = flags[flags.len() - 1] & long != 0;
         input.extend(&flags);
         let slots = *random.pick(&[2, 16, 256]);
         for index in 0..count {

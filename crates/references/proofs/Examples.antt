@@ -20,10 +20,26 @@ done rs rest = record { references = rs; rest = rest }
 abbrev later : List Reference → ℕ → Said
 later rs n = record { references = rs ++ (ref.No n 0 ∷ []); rest = 0 }
 
+-- reg, call and set_get_state, the new names of the chapter's worked example, and it
+abbrev pub reg : List ℕ
+reg = 114 ∷ 101 ∷ 103 ∷ []
+
+abbrev pub call : List ℕ
+call = 99 ∷ 97 ∷ 108 ∷ 108 ∷ []
+
+abbrev pub setGetState : List ℕ
+setGetState = 115 ∷ 101 ∷ 116 ∷ 95 ∷ 103 ∷ 101 ∷ 116 ∷ 95 ∷ 115 ∷ 116 ∷ 97 ∷ 116 ∷ 101 ∷ []
+
+abbrev pub chapters : List ℕ
+chapters = 131 ∷ 68 ∷ 5 ∷ 4 ∷ 137 ∷ 9 ∷ 10 ∷ 5 ∷ 236 ∷ 3 ∷ reg ++ (9 ∷ 4 ∷ call ++ (238 ∷ 13 ∷ setGetState))
+
 pub record Examples : Type 0 where
-  -- "header 131 68 1 8 5 1 97: slot 5 is "a", rest at 7; 131 68 1 9 5 1 97: Eof": the slot is the reference's own, not its index
+  -- "header 131 68 1 8 5 1 97: slot 5 is "a", rest at 7", and "the header 131 68 1 9 5 1 97 now stores "a" in slot 5": the slot is the reference's own,
+  -- not its index
   pub one : headerOf (131 ∷ 68 ∷ 1 ∷ 8 ∷ 5 ∷ 1 ∷ 97 ∷ []) ≡ done (ref.New 5 6 1 ∷ []) 7
-  pub long : headerOf (131 ∷ 68 ∷ 1 ∷ 9 ∷ 5 ∷ 1 ∷ 97 ∷ []) ≡ later [] number.Eof
+  pub odd : headerOf (131 ∷ 68 ∷ 1 ∷ 9 ∷ 5 ∷ 1 ∷ 97 ∷ []) ≡ done (ref.New 5 6 1 ∷ []) 7
+  -- the worked example of ETF's chapter: five references, of which the last three are new, with reg, call and set_get_state
+  pub worked : headerOf chapters ≡ done (ref.Old 10 ∷ ref.Old 5 ∷ ref.New 236 10 3 ∷ ref.New 9 15 4 ∷ ref.New 238 21 13 ∷ []) 34
   -- every new name is told, not the first alone
   pub both : headerOf (131 ∷ 68 ∷ 2 ∷ 136 ∷ 0 ∷ 5 ∷ 1 ∷ 97 ∷ 6 ∷ 1 ∷ 98 ∷ []) ≡ done (ref.New 5 7 1 ∷ ref.New 6 10 1 ∷ []) 11
   -- a later fault keeps the names before it
@@ -31,8 +47,11 @@ pub record Examples : Type 0 where
   -- the low half byte is the first reference's: the first is new and the second old, or the other way round
   pub low : headerOf (131 ∷ 68 ∷ 2 ∷ 8 ∷ 0 ∷ 5 ∷ 1 ∷ 97 ∷ 6 ∷ []) ≡ done (ref.New 5 7 1 ∷ ref.Old 6 ∷ []) 9
   pub high : headerOf (131 ∷ 68 ∷ 2 ∷ 128 ∷ 0 ∷ 6 ∷ 5 ∷ 1 ∷ 97 ∷ []) ≡ done (ref.Old 6 ∷ ref.New 5 8 1 ∷ []) 9
-  -- the bit that says how long a length is stands in the last flag byte
-  pub last : headerOf (131 ∷ 68 ∷ 2 ∷ 8 ∷ 1 ∷ 5 ∷ 0 ∷ 1 ∷ 97 ∷ 6 ∷ []) ≡ done (ref.New 5 8 1 ∷ ref.Old 6 ∷ []) 10
+  -- the bit that says how long a length is stands in the half byte after the last reference: of an even count the low half of the last flag byte,
+  -- whatever the high one is, of an odd one the high half, whatever the low one is
+  pub even-long : headerOf (131 ∷ 68 ∷ 2 ∷ 8 ∷ 1 ∷ 5 ∷ 0 ∷ 1 ∷ 97 ∷ 6 ∷ []) ≡ done (ref.New 5 8 1 ∷ ref.Old 6 ∷ []) 10
+  pub even-short : headerOf (131 ∷ 68 ∷ 2 ∷ 8 ∷ 16 ∷ 5 ∷ 1 ∷ 97 ∷ 6 ∷ []) ≡ done (ref.New 5 7 1 ∷ ref.Old 6 ∷ []) 9
+  pub odd-long : headerOf (131 ∷ 68 ∷ 1 ∷ 24 ∷ 5 ∷ 0 ∷ 1 ∷ 97 ∷ []) ≡ done (ref.New 5 7 1 ∷ []) 8
   -- the segment bits say nothing: of the first reference 6 here, of the second 5
   pub ignored : headerOf (131 ∷ 68 ∷ 2 ∷ 94 ∷ 0 ∷ 5 ∷ 1 ∷ 97 ∷ 6 ∷ []) ≡ headerOf (131 ∷ 68 ∷ 2 ∷ 8 ∷ 0 ∷ 5 ∷ 1 ∷ 97 ∷ 6 ∷ [])
   pub first-segment : segment (131 ∷ 68 ∷ 2 ∷ 94 ∷ []) 0 ≡ 6
@@ -43,9 +62,9 @@ pub record Examples : Type 0 where
   -- a name is judged before it is stored; missing bytes come first, then text
   pub text : headerOf (131 ∷ 68 ∷ 1 ∷ 8 ∷ 5 ∷ 1 ∷ 255 ∷ []) ≡ later [] number.Text
   pub missing : headerOf (131 ∷ 68 ∷ 1 ∷ 8 ∷ 5 ∷ 2 ∷ 255 ∷ []) ≡ later [] number.Eof
-  pub text-first : headerOf (131 ∷ 68 ∷ 1 ∷ 9 ∷ 5 ∷ 1 ∷ 0 ∷ replicate 255 97 ++ (255 ∷ [])) ≡ later [] number.Text
+  pub text-first : headerOf (131 ∷ 68 ∷ 1 ∷ 24 ∷ 5 ∷ 1 ∷ 0 ∷ replicate 255 97 ++ (255 ∷ [])) ≡ later [] number.Text
   -- a name of any length is one, of 256 bytes too: what a cache takes is not said here
-  pub larger : headerOf (131 ∷ 68 ∷ 1 ∷ 9 ∷ 5 ∷ 1 ∷ 0 ∷ replicate 256 97) ≡ done (ref.New 5 7 256 ∷ []) 263
+  pub larger : headerOf (131 ∷ 68 ∷ 1 ∷ 24 ∷ 5 ∷ 1 ∷ 0 ∷ replicate 256 97) ≡ done (ref.New 5 7 256 ∷ []) 263
   -- no references, no flags
   pub none : headerOf (131 ∷ 68 ∷ 0 ∷ []) ≡ done [] 3
   -- a wrong first byte and a wrong second one
@@ -56,12 +75,15 @@ pub examples : Examples
 unfolding headerOf opened startOf flagged references behind referenceAt newAt named longBit isNew newIn segment halfByte halfOf slotsOf byteThen numberThen row.name row.bytes holds fieldAt beAt be goodBytes goodFrom charBytes decode scalar encode starts
 examples = record {
   one = refl;
-  long = refl;
+  odd = refl;
+  worked = refl;
   both = refl;
   kept = refl;
   low = refl;
   high = refl;
-  last = refl;
+  even-long = refl;
+  even-short = refl;
+  odd-long = refl;
   ignored = refl;
   first-segment = refl;
   second-segment = refl;

@@ -1,5 +1,6 @@
 pub mod Reading
 pub mod Every
 pub mod Halves
+pub mod Segments
 pub mod Outcomes
 pub mod Examples

@@ -1,5 +1,5 @@
 -- Laws of how a header begins and of a reference, one for each way that specs/Header.antt can go. Assumes nothing.
-use Prim.Native.Nat.{ℕ, suc, _+_, _/_, _%_, _≤_, _<_}
+use Prim.Native.Nat.{ℕ, _+_, _/_, _%_, _≤_, _<_}
 use native.Mathlib.Omega.{arith}
 use mathlib.Core.Path.{_≡_, refl, sym, _∙_}
 use mathlib.Core.List.{List}
@@ -46,33 +46,38 @@ module _ (b : List ℕ) (new : Bool) (wide p : ℕ) where
     unfolding referenceAt
     new-is e = sym (byte-is _ b _ p h ∙ rw e)
 
--- a new name lies in the input, and its slot is the byte that stands first
+-- a new name lies in the input, behind its slot, which is the byte that stands first
 pub record FoundName (b : List ℕ) (p slot at n : ℕ) : Type 0 where
   pub first : fieldAt 1 b p ≡ field.Is slot
+  pub after : p < at
   pub inside : at + n ≤ length b
 
 not-found : {P : Type 0} {x y slot at n : ℕ} → ref.No x y ≡ ref.New slot at n → P
 not-found e = absurd (let z : _≡_ {A = ℕ} 0 1 = cc in omega arith)
 
-named-found : (b : List ℕ) (s m p : ℕ) {slot at n : ℕ} → named b s m p ≡ ref.New slot at n → (s ≡ slot) × (at + n ≤ length b)
+-- the same, behind the slot s and its length
+abbrev Named : List ℕ → (s p slot at n : ℕ) → Type 0
+Named b s p slot at n = (s ≡ slot) × (p ≤ at) × (at + n ≤ length b)
+
+named-found : (b : List ℕ) (s m p : ℕ) {slot at n : ℕ} → named b s m p ≡ ref.New slot at n → Named b s p slot at n
 unfolding named
 named-found b s m p {slot} {at} {n} e = go (row.name b m p) refl
   where
-    go : (r : Row) → row.name b m p ≡ r → (s ≡ slot) × (at + n ≤ length b)
+    go : (r : Row) → row.name b m p ≡ r → Named b s p slot at n
     go (To q) h =
         let f : ref.New s p m ≡ ref.New slot at n = rw h at e in
         let i : s ≡ slot = cc in
         let j : at ≡ p = cc in
         let k : n ≡ m = cc in
-        (i, omega (arith, name-to b m p h .1))
+        (i, omega arith, omega (arith, name-to b m p h .1))
     go (No y d) h = not-found {x = y} {y = d} (rw h at e)
 
-new-found : (b : List ℕ) (wide s p : ℕ) {slot at n : ℕ} → newAt b wide s p ≡ ref.New slot at n → (s ≡ slot) × (at + n ≤ length b)
+new-found : (b : List ℕ) (wide s p : ℕ) {slot at n : ℕ} → newAt b wide s p ≡ ref.New slot at n → Named b s p slot at n
 unfolding newAt numberThen
 new-found b wide s p {slot} {at} {n} e = go (fieldAt wide b p) refl
   where
-    go : (f : Field) → fieldAt wide b p ≡ f → (s ≡ slot) × (at + n ≤ length b)
-    go (field.Is m) h = named-found b s m (p + wide) (rw h at e)
+    go : (f : Field) → fieldAt wide b p ≡ f → Named b s p slot at n
+    go (field.Is m) h = let (i, j, k) = named-found b s m (p + wide) (rw h at e) in (i, omega arith, k)
     go field.Eof h = not-found {x = number.Eof} {y = 0} (rw h at e)
 
 pub found : (b : List ℕ) (new : Bool) (wide p : ℕ) {slot at n : ℕ} → referenceAt b new wide p ≡ ref.New slot at n → FoundName b p slot at n
@@ -80,7 +85,9 @@ unfolding referenceAt numberThen
 found b new wide p {slot} {at} {n} e = go (fieldAt 1 b p) refl new refl
   where
     go : (f : Field) → fieldAt 1 b p ≡ f → (t : Bool) → new ≡ t → FoundName b p slot at n
-    go (field.Is m) h true k = let g = new-found b wide m (p + 1) (rw (h, k) at e) in record { first = h ∙ rw (g .0); inside = g .1 }
+    go (field.Is m) h true k =
+        let (s, i, j) = new-found b wide m (p + 1) (rw (h, k) at e) in
+        record { first = h ∙ rw s; after = omega arith; inside = j }
     go (field.Is m) h false k =
         let f : ref.Old m ≡ ref.New slot at n = rw (h, k) at e in
         absurd (let z : _≡_ {A = ℕ} 0 1 = cc in omega arith)

@@ -1,4 +1,4 @@
--- The atom header: what its bytes say, of themselves and of no cache. Document 01, "Name cache".
+-- The atom header: what its bytes say, of themselves and of no cache. Document 01, "Name cache", and document 02, P2.
 use Prim.Native.Nat.{ℕ, zero, suc, _+_, _/_, _%_}
 use mathlib.Core.List.{List, [], _∷_}
 use mathlib.Core.Bool.{Bool, true, false, cond}
@@ -37,9 +37,9 @@ isNew b i = newIn (getD b (flagsAt + i / 2) 0) i
 unfoldable pub segment : List ℕ → ℕ → ℕ
 segment b i = halfByte b i % 8
 
--- "Lengths have 2 bytes where the last flag byte has the bit worth 1, else 1 byte." There are n references
+-- "ETF puts the long-length bit in the half byte after the last reference", of n: lengths have 2 bytes where its bit worth 1 is set, else 1 byte
 unfoldable pub longBit : List ℕ → ℕ → Bool
-longBit b n = eqb (getD b (flagsAt + n / 2) 0 % 2) 1
+longBit b n = eqb (halfByte b n % 2) 1
 
 -- "n of 0 has no flags. Else n div 2 + 1 flag bytes, then n references."
 unfoldable pub flagged : List ℕ → ℕ → Opening

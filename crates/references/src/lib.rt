@@ -53,7 +53,8 @@ pub fn start(b: &[u8]) -> Opening
     flagged(b, b[2] as usize)
 }
 
-// n references, with flags before them where there are any. A length has two bytes where the last flag byte has the bit worth 1.
+// n references, with flags before them where there are any. A length has two bytes where the half byte after the last reference has the bit
+// worth 1: the last flag byte's low half for an even count, its high half for an odd one.
 fn flagged(b: &[u8], n: usize) -> Opening
     ensures { λ r. ⌜ r ≡ said.flagged (now (b .entry)) n ⌝ }
 {
@@ -64,7 +65,7 @@ fn flagged(b: &[u8], n: usize) -> Opening
     if !fields::has(b, FLAGS, flags) {
         return Opening::No(numbers::EOF, 0);
     }
-    Opening::At(n, b[FLAGS + n / 2] % 2 == 1, FLAGS + flags)
+    Opening::At(n, half(b[FLAGS + n / 2], n) % 2 == 1, FLAGS + flags)
 }
 
 // Whether reference i is new, by the flag byte that has its half byte: the bit worth 8.

@@ -5,7 +5,7 @@ use mathlib.Core.Path.{_≡_, refl, sym, _∙_}
 use mathlib.Core.List.{List, [], _∷_}
 use lib.IntN.{pos, negsuc}
 use native.Mathlib.Omega.{arith}
-use lib.ListN.{length}
+use lib.ListN.{length, take, drop}
 use borrow.Author.Tests.{le-ltb, eq-eqb}
 use Rattle.fields.specs.Be.{be, beAt, signed}
 use Rattle.fields.specs.Field.{holds, fieldAt}
@@ -29,6 +29,8 @@ use Rattle.lookup.specs.Lookup.{Looked, number as integer}
 use Rattle.lookup.proofs.Examples.{last-wins}
 use Rattle.cache.specs.declared.Cache.{Cache}
 use Rattle.cache.specs.Names.{storeBytes, gotAt, partOf}
+use Rattle.references.specs.declared.Reference.the-variants as ref
+use Rattle.references.specs.Header.{headerOf}
 use Rattle.references.proofs.Examples as references
 use Rattle.names.specs.Form.{Left, after, putAll}
 use Rattle.cache.specs.Names.{Slots, put}
@@ -71,23 +73,21 @@ pub record Starred : Type 0 where
   pub seven-bits : Refused (131 ∷ 77 ∷ 0 ∷ 0 ∷ 0 ∷ 0 ∷ 7 ∷ []) 64 number.Bits 1 0 1 1 []
   -- "131 116 0 0 0 2 97 1 97 7 98 0 0 0 1 97 8: key 1 is found at 15."
   pub found : (r : Answer) → Looked (131 ∷ 116 ∷ 0 ∷ 0 ∷ 0 ∷ 2 ∷ 97 ∷ 1 ∷ 97 ∷ 7 ∷ 98 ∷ 0 ∷ 0 ∷ 0 ∷ 1 ∷ 97 ∷ 8 ∷ []) 1 64 (integer (pos 1)) r → (r .number ≡ 0) × (r .offset ≡ 15)
-  -- "header 131 68 1 8 5 1 97: slot 5 is "a", rest at 7; 131 68 1 9 5 1 97: Eof." Over any cache
+  -- "header 131 68 1 8 5 1 97: slot 5 is "a", rest at 7", and in place of what follows there "the header 131 68 1 9 5 1 97 now stores "a" in slot 5". Over
+  -- any cache
   pub header : (c : Cache) (store : List ℕ) → length (c .filled) ≡ 4 → length store ≡ storeBytes → Heads (headerOver (131 ∷ 68 ∷ 1 ∷ 8 ∷ 5 ∷ 1 ∷ 97 ∷ []) c store)
-  pub long-header : (c : Cache) (store : List ℕ) → length store ≡ storeBytes → headerOver (131 ∷ 68 ∷ 1 ∷ 9 ∷ 5 ∷ 1 ∷ 97 ∷ []) c store .number ≡ number.Eof
+  pub odd-header : (c : Cache) (store : List ℕ) → length (c .filled) ≡ 4 → length store ≡ storeBytes → Heads (headerOver (131 ∷ 68 ∷ 1 ∷ 9 ∷ 5 ∷ 1 ∷ 97 ∷ []) c store)
 
 minus-one : headAt (131 ∷ 98 ∷ 255 ∷ 255 ∷ 255 ∷ 255 ∷ []) 1 ≡ record { tag = 98; value = value.Integer (negsuc 0) }
 unfolding headAt head.term head.rowValue head.fixed rowAt row.bytes holds fieldAt beAt be signed
 minus-one = refl
 
-one-name : (c : Cache) (store : List ℕ) → length (c .filled) ≡ 4 → length store ≡ storeBytes → Heads (headerOver (131 ∷ 68 ∷ 1 ∷ 8 ∷ 5 ∷ 1 ∷ 97 ∷ []) c store)
+one-name : (b : List ℕ) → headerOf b ≡ record { references = ref.New 5 6 1 ∷ []; rest = 7 } → take 1 (drop 6 b) ≡ 97 ∷ [] →
+    (c : Cache) (store : List ℕ) → length (c .filled) ≡ 4 → length store ≡ storeBytes → Heads (headerOver b c store)
 unfolding headerOver putAll after put
-one-name c store h k =
-    rw (eq-eqb (length store) storeBytes k, references.examples .one)
+one-name b e f c store h k =
+    rw (eq-eqb (length store) storeBytes k, e, f)
     (record { done = refl; rest = refl; slot = put-part (c .filled) store 5 (97 ∷ []) h k (omega arith) (omega arith) })
-
-eof : (c : Cache) (store : List ℕ) → length store ≡ storeBytes → headerOver (131 ∷ 68 ∷ 1 ∷ 9 ∷ 5 ∷ 1 ∷ 97 ∷ []) c store .number ≡ number.Eof
-unfolding headerOver putAll
-eof c store k = rw (eq-eqb (length store) storeBytes k, references.examples .long)
 
 pub starred : Starred
 unfolding readAll recordIn wholeFrom ended readAt starts answer behind bitsThen bitsByte
@@ -105,7 +105,7 @@ starred = record {
   least = sym (head-is _ 0) ∙ heads.least;
   no-bits = λ room h. rw (le-ltb room 5 h) refl;
   seven-bits = λ room. refl;
-  header = one-name;
-  long-header = eof;
+  header = one-name _ (references.examples .one) refl;
+  odd-header = one-name _ (references.examples .odd) refl;
   found = λ r l. let w = last-wins l in (w .0, w .1);
 }
