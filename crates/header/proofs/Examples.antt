@@ -1,4 +1,5 @@
--- What headers leave of an empty cache, as the definitions compute it: each tells a right function from a wrong one. Assumes nothing.
+-- What headers leave of a cache, as the definitions compute it, most of them of an empty one: each tells a right function from a wrong one. Assumes
+-- nothing.
 use Prim.Native.Nat.{ℕ, zero, suc, _+_, _/_, _<_}
 use native.Mathlib.Omega.{arith}
 use mathlib.Core.Path.{_≡_, refl}
