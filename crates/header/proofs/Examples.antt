@@ -4,7 +4,7 @@ use Prim.Native.Nat.{ℕ, zero, suc, _+_, _/_, _<_}
 use native.Mathlib.Omega.{arith}
 use mathlib.Core.Path.{_≡_, refl}
 use mathlib.Core.List.{List, [], _∷_, _++_}
-use lib.ListN.{length, replicate}
+use lib.ListN.{replicate}
 use Rattle.fields.specs.Be.{be, beAt}
 use Rattle.fields.specs.Field.{holds, fieldAt, numberThen, byteThen}
 use Rattle.utf8.specs.Unicode.{scalar, encode}
@@ -35,6 +35,7 @@ workedNames = record { slot = 236; name = reg } ∷ record { slot = 9; name = ca
 pub record Worked (s : Slots) (l : Left Slots) : Type 0 where
   pub done : l .number ≡ 0
   pub rest : l .rest ≡ 34
+  pub extra : l .extra ≡ 0
   pub names : (j : ℕ) → slots .held (l .cache) j ≡ updatedAll (slots .held s) workedNames j
 
 -- a list of bytes, by what is left of each above 255
@@ -55,6 +56,7 @@ worked c s h =
     record {
       done = rw (over, said) refl;
       rest = rw (over, said) refl;
+      extra = rw (over, said) refl;
       names = λ j. rw said at (header-view chapters (bytes chapters refl) c s h j);
     }
 

@@ -2,7 +2,7 @@
 use Prim.Native.Nat.{ℕ}
 use mathlib.Core.Path.{_≡_, refl}
 use mathlib.Core.List.{List, [], _∷_, _++_}
-use lib.ListN.{length, replicate}
+use lib.ListN.{replicate}
 use Rattle.fields.specs.Be.{be, beAt}
 use Rattle.fields.specs.Field.{holds, fieldAt, numberThen, byteThen}
 use Rattle.utf8.specs.Unicode.{scalar, encode}
