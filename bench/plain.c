@@ -20,6 +20,9 @@ struct reader {
     // the path, innermost first
     size_t segments;
     uint64_t path[SILL_DEEPEST][2];
+    // of a message the slots of its header's references, as sill_message notes them, and which are filled
+    const uint8_t *run;
+    const uint64_t *filled;
 };
 
 static inline uint32_t be16(const uint8_t *p) { return (uint32_t)p[0] << 8 | p[1]; }
@@ -112,6 +115,16 @@ static size_t number_text(struct reader *r, size_t p) {
     return is_literal(r->b + p, n) ? end : refuse(r, SILL_LITERAL);
 }
 
+// An atom by its position in the header.
+static size_t position(struct reader *r, size_t p) {
+    if (r->run == NULL) return refuse(r, SILL_TAG);
+    if (r->len <= p) return refuse(r, SILL_EOF);
+    size_t k = r->b[p];
+    if (r->run[0] <= k) return refuse(r, SILL_TAG);
+    size_t slot = r->run[1 + k];
+    return r->filled[slot / 64] >> slot % 64 & 1 ? p + 1 : refuse(r, SILL_TAG);
+}
+
 static size_t container(struct reader *r, unsigned tag, size_t p, size_t level);
 
 // A term at nesting `level`: where it ends, or 0.
@@ -147,6 +160,7 @@ static inline size_t term(struct reader *r, size_t pos, size_t level) {
     case 110: return left < 2 ? refuse(r, SILL_EOF) : bytes(r, p + 2, s[0]);
     case 111: return left < 5 ? refuse(r, SILL_EOF) : bytes(r, p + 5, be32(s));
     case 99: return number_text(r, p);
+    case 82: return position(r, p);
     default: return container(r, tag, p, level);
     }
 }
@@ -179,7 +193,7 @@ static size_t atom(struct reader *r, size_t pos, size_t level) {
     size_t end = required(r, pos, level);
     if (end == 0) return 0;
     uint8_t tag = r->b[pos];
-    return tag == 100 || tag == 118 || tag == 119 ? end : refuse(r, SILL_TAG);
+    return tag == 100 || tag == 118 || tag == 119 || tag == 82 ? end : refuse(r, SILL_TAG);
 }
 
 static size_t natural(struct reader *r, uint32_t most, size_t pos, size_t level) {
@@ -241,6 +255,7 @@ struct shape {
 __attribute__((always_inline)) static inline struct shape shape_at(const uint8_t *b, size_t pos) {
     const uint8_t *s = b + pos + 1;
     switch (b[pos]) {
+    case 82:
     case 97: return (struct shape){pos + 2, 0, 0};
     case 98: return (struct shape){pos + 5, 0, 0};
     case 70: return (struct shape){pos + 9, 0, 0};
@@ -287,6 +302,7 @@ static struct reader over(const uint8_t *b, size_t len, size_t limit) {
     struct reader r;
     r.b = b, r.len = len, r.limit = limit;
     r.last = r.begun = r.deepest = r.segments = 0;
+    r.run = NULL, r.filled = NULL;
     return r;
 }
 
@@ -304,18 +320,23 @@ static size_t whole(struct reader *r, size_t at, uint64_t told[7], uint64_t path
     return 0;
 }
 
+// Reads one term from `start` to the input's end and writes its tape.
+static void to_the_end(struct reader *r, size_t start, uint32_t *tape, size_t words, uint64_t told[7], uint64_t path[128]) {
+    size_t end = whole(r, start, told, path);
+    if (end == 0) return;
+    if (end < r->len) return tell(told, r, SILL_TRAILING, 0, end, r->len - end);
+    if (words / 5 < r->begun) return tell(told, r, SILL_ROOM, 0, 0, r->begun);
+    fill(r->b, &start, 1, 0, 0, tape);
+    tell(told, r, SILL_DONE, end, 0, 0);
+}
+
 void plain_read(const uint8_t *b, size_t len, size_t limit, uint32_t *tape, size_t words, uint64_t told[7], uint64_t path[128]) {
     struct reader r = over(b, len, limit);
     if (limit == 0 || SILL_DEEPEST < limit) return tell(told, &r, SILL_LIMIT, 0, 0, 0);
     if (SILL_LONGEST < len) return tell(told, &r, SILL_LONG, 0, 0, 0);
     if (len == 0) return tell(told, &r, SILL_EOF, 0, 0, 0);
     if (b[0] != 131) return tell(told, &r, SILL_TAG, 0, 0, 0);
-    size_t end = whole(&r, 1, told, path), pos = 1;
-    if (end == 0) return;
-    if (end < len) return tell(told, &r, SILL_TRAILING, 0, end, len - end);
-    if (words / 5 < r.begun) return tell(told, &r, SILL_ROOM, 0, 0, r.begun);
-    fill(b, &pos, 1, 0, 0, tape);
-    tell(told, &r, SILL_DONE, end, 0, 0);
+    to_the_end(&r, 1, tape, words, told, path);
 }
 
 // The end of a good term.
@@ -445,24 +466,30 @@ static void tell_header(uint64_t told[3], uint64_t number, size_t rest, uint64_t
     told[0] = number, told[1] = rest, told[2] = extra;
 }
 
-void plain_header(const uint8_t *b, size_t len, uint64_t filled[4], uint8_t *store, size_t store_len, uint64_t told[3]) {
-    if (store_len != SILL_STORE_BYTES) return tell_header(told, SILL_STORE, 0, 0);
-    if (SILL_LONGEST < len) return tell_header(told, SILL_LONG, 0, 0);
+// Half byte i of a header's flags.
+static inline unsigned half(const uint8_t *flags, size_t i) { return flags[i / 2] >> (i % 2 ? 4 : 0) & 15; }
+
+// A header. Where a run is lent it is a message's: then no segment number may be there, and the slots are put into the run.
+static void header(const uint8_t *b, size_t len, uint64_t filled[4], uint8_t *store, uint8_t *run, uint64_t told[3]) {
     if (len < 1) return tell_header(told, SILL_EOF, 0, 0);
     if (b[0] != 131) return tell_header(told, SILL_TAG, 0, 0);
     if (len < 2) return tell_header(told, SILL_EOF, 0, 0);
     if (b[1] != 68) return tell_header(told, SILL_KIND, 0, b[1]);
     if (len < 3) return tell_header(told, SILL_EOF, 0, 0);
     size_t n = b[2], p = 3 + n / 2 + 1;
+    if (run) run[0] = (uint8_t)n;
     if (n == 0) return tell_header(told, SILL_DONE, 3, 0);
     if (len < p) return tell_header(told, SILL_EOF, 0, 0);
     const uint8_t *flags = b + 3;
+    for (size_t i = 0; run && i < n; i++)
+        if (half(flags, i) & 7) return tell_header(told, SILL_SEGMENT, 0, 0);
     /* by the bit worth 1 of the half byte after the last reference */
-    size_t width = flags[n / 2] >> (n % 2 ? 4 : 0) & 1 ? 2 : 1;
+    size_t width = half(flags, n) & 1 ? 2 : 1;
     for (size_t i = 0; i < n; i++) {
         if (len <= p) return tell_header(told, SILL_EOF, 0, 0);
         size_t slot = b[p++];
-        if ((flags[i / 2] >> (i % 2 ? 4 : 0) & 8) == 0) continue;
+        if (run) run[1 + i] = (uint8_t)slot;
+        if ((half(flags, i) & 8) == 0) continue;
         if (len - p < width) return tell_header(told, SILL_EOF, 0, 0);
         size_t size = width == 2 ? be16(b + p) : b[p];
         p += width;
@@ -475,4 +502,26 @@ void plain_header(const uint8_t *b, size_t len, uint64_t filled[4], uint8_t *sto
         p += size;
     }
     tell_header(told, SILL_DONE, p, 0);
+}
+
+void plain_header(const uint8_t *b, size_t len, uint64_t filled[4], uint8_t *store, size_t store_len, uint64_t told[3]) {
+    if (store_len != SILL_STORE_BYTES) return tell_header(told, SILL_STORE, 0, 0);
+    if (SILL_LONGEST < len) return tell_header(told, SILL_LONG, 0, 0);
+    header(b, len, filled, store, NULL, told);
+}
+
+// The run is left alone until the whole header is read.
+void plain_message(const uint8_t *b, size_t len, size_t limit, uint64_t filled[4], uint8_t *store, size_t store_len, uint8_t run[256],
+                   uint32_t *tape, size_t words, uint64_t told[7], uint64_t path[128]) {
+    struct reader r = over(b, len, limit);
+    uint8_t slots[SILL_POSITIONS];
+    uint64_t before[SILL_HEADER_TOLD];
+    if (limit == 0 || SILL_DEEPEST < limit) return tell(told, &r, SILL_LIMIT, 0, 0, 0);
+    if (store_len != SILL_STORE_BYTES) return tell(told, &r, SILL_STORE, 0, 0, 0);
+    if (SILL_LONGEST < len) return tell(told, &r, SILL_LONG, 0, 0, 0);
+    header(b, len, filled, store, slots, before);
+    if (before[0] != SILL_DONE) return tell(told, &r, before[0], 0, 0, before[2]);
+    memcpy(run, slots, 1 + (size_t)slots[0]);
+    r.run = run, r.filled = filled;
+    to_the_end(&r, before[1], tape, words, told, path);
 }

@@ -37,7 +37,24 @@ static void atom_name(struct out *o, const char *name) {
     while (*name) byte(o, (uint8_t)*name++);
 }
 
-static void atom(struct out *o, const char *name) { byte(o, 119), atom_name(o, name); }
+// The atoms of a pack, its states first.
+static const char *const atoms[] = {"idle",   "charging", "discharging", "balancing", "full",  "low",   "warm", "ok",      "serial", "at",
+                                    "state",  "limits",   "volts",       "amps",      "cells", "steps", "step", "samples", "note"};
+
+enum { STATES = 8, ATOMS = sizeof atoms / sizeof *atoms };
+
+static const char *state(struct out *o) { return atoms[draw(o, STATES)]; }
+
+// By its name, or behind a header by its position among those of a pack.
+static void atom(struct out *o, const char *name) {
+    unsigned k = 0;
+    if (o->b[1] != 68) {
+        byte(o, 119), atom_name(o, name);
+        return;
+    }
+    while (strcmp(atoms[k], name) != 0) k++;
+    byte(o, 82), byte(o, k);
+}
 
 static void binary(struct out *o, uint32_t n) {
     byte(o, 109), word(o, n);
@@ -52,20 +69,18 @@ static void map(struct out *o, uint32_t n) { byte(o, 116), word(o, n); }
 
 static void nil(struct out *o) { byte(o, 106); }
 
-static const char *const states[] = {"idle", "charging", "discharging", "balancing", "full", "low", "warm", "ok"};
-
 static void limit(struct out *o, const char *name) {
     atom(o, name), tuple(o, 2), real(o, 2.5 + draw(o, 100) / 64.0), real(o, 4.0 + draw(o, 100) / 64.0);
 }
 
 // {Number, Volts, Temperature, State}
 static void cell(struct out *o, unsigned i) {
-    tuple(o, 4), small(o, i), real(o, 3.0 + draw(o, 1000) / 1024.0), small(o, draw(o, 80)), atom(o, states[draw(o, 8)]);
+    tuple(o, 4), small(o, i), real(o, 3.0 + draw(o, 1000) / 1024.0), small(o, draw(o, 80)), atom(o, state(o));
 }
 
 // {step, State, Seconds, #{amps => .., samples => [..], at => {Row, Column}}}
 static void step(struct out *o) {
-    tuple(o, 4), atom(o, "step"), atom(o, states[draw(o, 8)]), integer(o, draw(o, 60000));
+    tuple(o, 4), atom(o, "step"), atom(o, state(o)), integer(o, draw(o, 60000));
     map(o, 3);
     atom(o, "amps"), integer(o, draw(o, 60000));
     atom(o, "samples");
@@ -81,7 +96,7 @@ static void pack(struct out *o) {
     map(o, 7);
     atom(o, "serial"), binary(o, 12);
     atom(o, "at"), integer(o, draw(o, 60000));
-    atom(o, "state"), atom(o, states[draw(o, 8)]);
+    atom(o, "state"), atom(o, state(o));
     atom(o, "limits"), map(o, 2), limit(o, "volts"), limit(o, "amps");
     atom(o, "cells"), list(o, 14);
     for (unsigned i = 0; i < 14; i++) cell(o, i);
@@ -162,8 +177,42 @@ static size_t header(uint8_t *b, size_t names) {
     struct out o = {b, 0, 1};
     byte(&o, 131), byte(&o, 68), byte(&o, (unsigned)(2 * names));
     for (size_t i = 0; i <= names; i++) byte(&o, i < names / 2 ? 0x88 : 0);
-    for (size_t i = 0; i < names; i++) byte(&o, (unsigned)(7 * i % 256)), atom_name(&o, states[draw(&o, 8)]);
+    for (size_t i = 0; i < names; i++) byte(&o, (unsigned)(7 * i % 256)), atom_name(&o, state(&o));
     for (size_t i = 0; i < names; i++) byte(&o, (unsigned)(7 * i % 256));
+    return o.n;
+}
+
+// A header that refers to the atoms of a pack, each in a slot of its own: new ones, as a drawer tells them once, or old ones.
+static void opening(struct out *o, int new) {
+    byte(o, 131), byte(o, 68), byte(o, ATOMS);
+    for (unsigned i = 0; i <= ATOMS / 2; i++) byte(o, new ? 0x88 : 0);
+    for (unsigned i = 0; i < ATOMS; i++) {
+        byte(o, 7 * i);
+        if (new) atom_name(o, atoms[i]);
+    }
+}
+
+static size_t told_once(uint8_t *b) {
+    struct out o = {b, 0, 1};
+    opening(&o, 1);
+    return o.n;
+}
+
+// Messages: a pack, and a list of positions.
+static size_t message(uint8_t *b, size_t unused) {
+    (void)unused;
+    struct out o = {b, 0, 1};
+    opening(&o, 0), pack(&o);
+    return o.n;
+}
+
+static size_t positions(uint8_t *b, size_t most) {
+    struct out o = {b, 0, 1};
+    opening(&o, 0);
+    uint32_t n = (uint32_t)(most - o.n - 6) / 2;
+    list(&o, n);
+    while (n--) byte(&o, 82), byte(&o, draw(&o, ATOMS));
+    nil(&o);
     return o.n;
 }
 
@@ -193,18 +242,19 @@ static size_t nested(uint8_t *b, size_t tuples) {
 }
 
 // {5, a}
-static size_t message(uint8_t *b, size_t unused) {
+static size_t three_terms(uint8_t *b, size_t unused) {
     (void)unused;
     struct out o = {b, 0, 1};
     byte(&o, 131), tuple(&o, 2), small(&o, 5), atom(&o, "a");
     return o.n;
 }
 
-// A term of every tag: read to see that two readers answer alike, and not timed.
-static size_t every_tag(uint8_t *b, size_t unused) {
-    (void)unused;
+// A term of every tag, as a record or as a message: read to see that two readers answer alike, and not timed.
+static size_t every_tag(uint8_t *b, int as_message) {
     struct out o = {b, 0, 1};
-    byte(&o, 131), byte(&o, 105), word(&o, 16);
+    if (as_message) opening(&o, 0);
+    else byte(&o, 131);
+    byte(&o, 105), word(&o, 16);
     small(&o, 255), integer(&o, 0xFFFFFFFF), real(&o, -0.5);
     byte(&o, 99);
     const char *text = "-1.50000000000000000000e+01";
@@ -217,13 +267,13 @@ static size_t every_tag(uint8_t *b, size_t unused) {
     byte(&o, 110), byte(&o, 9), byte(&o, 1), word(&o, 1), word(&o, 2), byte(&o, 3);
     byte(&o, 111), word(&o, 4), byte(&o, 0), word(&o, 5);
     list(&o, 1), small(&o, 1), small(&o, 2);
-    byte(&o, 90), byte(&o, 0), byte(&o, 2), atom(&o, "n@h"), word(&o, 3), word(&o, 1), word(&o, 2);
-    byte(&o, 120), atom(&o, "n@h"), word(&o, 0), word(&o, 7), word(&o, 3);
-    byte(&o, 113), atom(&o, "lists"), atom(&o, "map"), small(&o, 2);
+    byte(&o, 90), byte(&o, 0), byte(&o, 2), atom(&o, "cells"), word(&o, 3), word(&o, 1), word(&o, 2);
+    byte(&o, 120), atom(&o, "cells"), word(&o, 0), word(&o, 7), word(&o, 3);
+    byte(&o, 113), atom(&o, "steps"), atom(&o, "step"), small(&o, 2);
     byte(&o, 112), word(&o, 0), byte(&o, 1);
     for (int i = 0; i < 16; i++) byte(&o, 0);
-    word(&o, 1), word(&o, 2), atom(&o, "m"), small(&o, 1), integer(&o, 2);
-    byte(&o, 88), atom(&o, "n@h"), word(&o, 1), word(&o, 0), word(&o, 3);
-    map(&o, 1), atom(&o, "k"), nil(&o), tuple(&o, 1), small(&o, 9);
+    word(&o, 1), word(&o, 2), atom(&o, "steps"), small(&o, 1), integer(&o, 2);
+    byte(&o, 88), atom(&o, "cells"), word(&o, 1), word(&o, 0), word(&o, 3);
+    map(&o, 1), atom(&o, "at"), nil(&o), tuple(&o, 1), small(&o, 9);
     return o.n;
 }

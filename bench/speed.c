@@ -20,7 +20,7 @@
 
 enum { LIMIT = SILL_DEEPEST, MOST = SILL_LONGEST, WORDS = SILL_CELL << 22 };
 
-static uint8_t bytes[MOST], store[SILL_STORE_BYTES], written[MOST];
+static uint8_t bytes[MOST], store[SILL_STORE_BYTES], run[SILL_POSITIONS], written[MOST];
 static size_t len, terms;
 static uint32_t tape[WORDS];
 static uint64_t told[SILL_HEAD_TOLD], path[SILL_PATH], filled[SILL_FILLED];
@@ -84,6 +84,16 @@ static int our_header(void) {
 
 static int their_header(void) {
     plain_header(bytes, len, filled, store, SILL_STORE_BYTES, told);
+    return told[0] == SILL_DONE;
+}
+
+static int our_message(void) {
+    sill_message(bytes, len, LIMIT, filled, store, SILL_STORE_BYTES, run, tape, WORDS, told, path);
+    return told[0] == SILL_DONE;
+}
+
+static int their_message(void) {
+    plain_message(bytes, len, LIMIT, filled, store, SILL_STORE_BYTES, run, tape, WORDS, told, path);
     return told[0] == SILL_DONE;
 }
 
@@ -156,13 +166,15 @@ static const struct row {
     {"1_MiB_of_binaries", "sill_read", binaries, 1 << 20, {our_read, ei_read, rusts_read, their_read}},
     {"64_KiB_of_long_atoms", "sill_read", long_atoms, 1 << 16, {our_read, ei_read, rusts_read, their_read}},
     {"64_levels", "sill_read", nested, 63, {our_read, ei_read, rusts_read, their_read}},
-    {"three_terms", "sill_read", message, 0, {our_read, ei_read, rusts_read, their_read}},
+    {"three_terms", "sill_read", three_terms, 0, {our_read, ei_read, rusts_read, their_read}},
     {"64_KiB_of_names_not_ASCII", "sill_read", foreign_atoms, 1 << 16, {our_read, ei_read, rusts_read, their_read}},
     {"thirty_nested_tuples", "sill_read", nested, 30, {our_read, ei_read, rusts_read, their_read}},
     {"heads_over_a_16_KiB_tape", "sill_head", record, 1 << 14, {our_heads, NULL, NULL, their_heads}},
     {"a_name_in_a_1_KiB_map", "sill_find_name", record, 1 << 10, {our_name, NULL, NULL, their_name}},
     {"a_number_among_1,000_keys", "sill_find_number", numbered, 1000, {our_number, NULL, NULL, their_number}},
     {"header_with_32_new_names", "sill_header", header, 32, {our_header, NULL, NULL, their_header}},
+    {"1_KiB_record_as_a_message", "sill_message", message, 0, {our_message, NULL, NULL, their_message}},
+    {"64_KiB_of_positions", "sill_message", positions, 1 << 16, {our_message, NULL, NULL, their_message}},
     {"UTF-8,_64_KiB_of_ASCII", "sill_utf8", letters, 1 << 16, {our_text, NULL, rusts_text, their_text}},
     {"UTF-8,_64_KiB_not_ASCII", "sill_utf8", foreign_text, 1 << 16, {our_text, NULL, rusts_text, their_text}},
 };
@@ -189,7 +201,7 @@ static const struct row writing[] = {
     {"1_MiB_of_binaries", "sill_write", binaries, 1 << 20, {our_write, ei_write, NULL, NULL}},
     {"64_KiB_of_names_not_ASCII", "sill_write", foreign_atoms, 1 << 16, {our_write, ei_write, NULL, NULL}},
     {"64_levels", "sill_write", nested, 63, {our_write, ei_write, NULL, NULL}},
-    {"three_terms", "sill_write", message, 0, {our_write, ei_write, NULL, NULL}},
+    {"three_terms", "sill_write", three_terms, 0, {our_write, ei_write, NULL, NULL}},
 };
 
 #define EACH(table) table, sizeof table / sizeof *table
@@ -207,11 +219,13 @@ static void fail(const char *why, const char *where) {
     exit(1);
 }
 
-// The row's input. Where it is a record, its terms are counted, and their cells lie on the tape. Where it is to be written, its bytes are those
-// that will be: a record spends five on integers that do with two.
+// The row's input. Where it is a record or a message, whose names were told before, its terms are counted, and their cells lie on the tape. Where
+// it is to be written, its bytes are those that will be: a record spends five on integers that do with two.
 static void make(const struct row *row) {
+    len = told_once(bytes);
+    their_header();
     len = row->make(bytes, row->of);
-    terms = their_read() ? told[SILL_BEGUN] : 0;
+    terms = their_read() || their_message() ? told[SILL_BEGUN] : 0;
     if (row->by[0] != our_write) return;
     items_of(&items, bytes, len, tape, terms);
     terms = items.n;
@@ -256,9 +270,9 @@ static void times(const struct row *row) {
 
 // Checking: ours writes into the first of each pair, the plain reader into the second.
 static struct out chance = {NULL, 0, 7};
-static uint8_t good[MOST], stores[2][SILL_STORE_BYTES];
+static uint8_t good[MOST], stores[2][SILL_STORE_BYTES], drawer_stores[2][SILL_STORE_BYTES], drawer_runs[2][SILL_POSITIONS];
 static uint32_t tapes[2][WORDS];
-static uint64_t answers[2][SILL_HEAD_TOLD], paths[2][SILL_PATH], caches[2][SILL_FILLED];
+static uint64_t answers[2][SILL_HEAD_TOLD], paths[2][SILL_PATH], caches[2][SILL_FILLED], drawer_caches[2][SILL_FILLED];
 
 static void same(const void *pair, size_t size, const char *what, const char *where) {
     if (memcmp(pair, (const char *)pair + size, size) != 0) fail(what, where);
@@ -268,10 +282,36 @@ static uint32_t below(size_t n) { return draw(&chance, n < 65536 ? (uint32_t)n :
 
 // Some bytes changed, mostly to tags and to the largest and the least; or the input cut; or nothing.
 static void damage(void) {
-    static const uint8_t some[] = {97, 98, 99, 70, 100, 118, 119, 104, 105, 106, 107, 108, 109, 77, 110, 111, 116, 88, 90, 120, 113, 112,
+    static const uint8_t some[] = {97, 98, 99, 70, 100, 118, 119, 104, 105, 106, 107, 108, 109, 77, 110, 111, 116, 88, 90, 120, 113, 112, 82,
                                    0, 1, 2, 3, 4, 8, 9, 127, 128, 191, 194, 224, 237, 240, 244, 255};
     if (below(4) == 0) len = below(len + 1);
     for (uint32_t n = below(4); n && len; n--) bytes[below(len)] = below(3) ? some[below(sizeof some)] : (uint8_t)below(256);
+}
+
+// What a read tells and writes.
+static void same_read(const char *answer, const char *path, const char *tape, const char *where) {
+    same(answers, sizeof answers[0], answer, where);
+    same(paths, sizeof paths[0], path, where);
+    size_t written = answers[0][0] == SILL_DONE ? SILL_CELL * answers[0][SILL_BEGUN] : 0;
+    if (memcmp(tapes[0], tapes[1], (written + 64) * sizeof **tapes) != 0) fail(tape, where);
+}
+
+// A message, over the names of those before it, at times with those that a drawer tells once, at times with none.
+static void messages_alike(const char *where, size_t limit, size_t words) {
+    uint8_t once[1 << 9];
+    size_t n = told_once(once);
+    uint32_t lot = below(4);
+    if (lot == 0) memset(drawer_caches, 0, sizeof drawer_caches);
+    if (lot == 1) {
+        sill_header(once, n, drawer_caches[0], drawer_stores[0], SILL_STORE_BYTES, answers[0]);
+        plain_header(once, n, drawer_caches[1], drawer_stores[1], SILL_STORE_BYTES, answers[1]);
+    }
+    sill_message(bytes, len, limit, drawer_caches[0], drawer_stores[0], SILL_STORE_BYTES, drawer_runs[0], tapes[0], words, answers[0], paths[0]);
+    plain_message(bytes, len, limit, drawer_caches[1], drawer_stores[1], SILL_STORE_BYTES, drawer_runs[1], tapes[1], words, answers[1], paths[1]);
+    same_read("message differs in its answer", "message differs in its path", "message differs in its tape", where);
+    same(drawer_caches, sizeof drawer_caches[0], "message differs in its slots", where);
+    same(drawer_stores, sizeof drawer_stores[0], "message differs in its names", where);
+    same(drawer_runs, sizeof drawer_runs[0], "message differs in its positions", where);
 }
 
 // Every call that has a plain twin, on the bytes as they are.
@@ -280,10 +320,7 @@ static void alike(const char *where, size_t limit, size_t words) {
     memset(paths, 0, sizeof paths);
     sill_read(bytes, len, limit, tapes[0], words, answers[0], paths[0]);
     plain_read(bytes, len, limit, tapes[1], words, answers[1], paths[1]);
-    same(answers, sizeof answers[0], "read differs in its answer", where);
-    same(paths, sizeof paths[0], "read differs in its path", where);
-    size_t written = answers[0][0] == SILL_DONE ? SILL_CELL * answers[0][SILL_BEGUN] : 0;
-    if (memcmp(tapes[0], tapes[1], (written + 64) * sizeof **tapes) != 0) fail("read differs in its tape", where);
+    same_read("read differs in its answer", "read differs in its path", "read differs in its tape", where);
     for (int i = 0; i < 8; i++) {
         size_t at = i == 0 ? 1 : below(len + 2);
         sill_head(bytes, len, at, answers[0]);
@@ -304,6 +341,7 @@ static void alike(const char *where, size_t limit, size_t words) {
     same(answers, sizeof answers[0], "header differs in its answer", where);
     same(caches, sizeof caches[0], "header differs in its slots", where);
     same(stores, sizeof stores[0], "header differs in its names", where);
+    messages_alike(where, limit, words);
     if (sill_utf8(bytes, len) != plain_utf8(bytes, len)) fail("UTF-8 differs", where);
 }
 
@@ -353,6 +391,7 @@ static void check_lines(void) {
 
 static void check_rows(void) {
     check("every_tag", every_tag(good, 0), 10000);
+    check("every_tag_in_a_message", every_tag(good, 1), 10000);
     for (size_t i = 0; i < sizeof rows / sizeof *rows; i++) {
         size_t n = rows[i].make(good, rows[i].of);
         check(rows[i].name, n, n < 1 << 11 ? 4000 : n < 1 << 17 ? 100 : 4);

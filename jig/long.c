@@ -3,8 +3,10 @@
  * Number 10 for every call that takes an input: each is made with an input of 16,777,216 bytes, the longest, and of one byte more, which is
  * refused as Long and leaves everything else as it was. The inputs are made of good bytes, so that nothing but the length is at fault.
  *
- * Number 15 for the two calls that take a store: each is made with stores of other lengths, which are refused as Store before anything else is
- * looked at and leave the words and every byte as they were, and with one of 65,536 bytes, which does its work.
+ * Number 15 for the calls that take a store: each is made with stores of other lengths, which are refused as Store before anything else but a
+ * limit is looked at and leave the words and every byte as they were, and with one of 65,536 bytes, which does its work.
+ *
+ * What a message leaves, refused or not: names, the run that keeps its header, and the tape.
  *
  * Numbers 17 and 9 for the writer: its caps, the integers where the tag changes, names, nesting, places and room, each from both sides. A
  * refused write must leave every byte that it is lent, a Done one those behind the term, and that is read back whole.
@@ -19,6 +21,7 @@ enum { WORDS = 8 * SILL_CELL, PAINT = 0xa5 };
 
 static uint8_t bytes[SILL_LONGEST + 1];
 static uint8_t store[2 * SILL_STORE_BYTES], was_store[2 * SILL_STORE_BYTES];
+static uint8_t run[SILL_POSITIONS], was_run[SILL_POSITIONS];
 static uint32_t tape[WORDS], was_tape[WORDS];
 static uint64_t told[SILL_HEAD_TOLD], path[SILL_PATH], was_path[SILL_PATH], filled[SILL_FILLED], was_filled[SILL_FILLED];
 static int failed;
@@ -35,10 +38,12 @@ static void paint(void) {
     memset(path, PAINT, sizeof path);
     memset(tape, PAINT, sizeof tape);
     memset(store, PAINT, sizeof store);
+    memset(run, PAINT, sizeof run);
     sill_empty(filled);
     memcpy(was_path, path, sizeof path);
     memcpy(was_tape, tape, sizeof tape);
     memcpy(was_store, store, sizeof store);
+    memcpy(was_run, run, sizeof run);
     memcpy(was_filled, filled, sizeof filled);
 }
 
@@ -51,22 +56,31 @@ static void expect(const char *call, size_t n, const uint64_t *want, int words, 
     for (int i = words; i < SILL_HEAD_TOLD; i++) bad |= told[i] != painted;
     if (kept)
         bad |= memcmp(path, was_path, sizeof path) || memcmp(tape, was_tape, sizeof tape) || memcmp(store, was_store, sizeof store) ||
-               memcmp(filled, was_filled, sizeof filled);
-    printf("%-16s %zu bytes: tells %llu first%s\n", call, n, (unsigned long long)told[0], bad ? " AND NOT AS EXPECTED" : "");
+               memcmp(run, was_run, sizeof run) || memcmp(filled, was_filled, sizeof filled);
+    printf("%-24s %zu bytes: tells %llu first%s\n", call, n, (unsigned long long)told[0], bad ? " AND NOT AS EXPECTED" : "");
     failed |= bad;
 }
 
-/* Paints, and lends a cache that has "a" in slot 5 and nothing else. */
+/* Paints, and lends a cache that has "a" in slot 5 and nothing else, and the run of a header that refers to it once. Behind that the run leads there
+ * too, so that it is found where it must not be. */
 static void lend(void) {
     static const uint8_t header[] = {131, 68, 1, 8, 5, 1, 'a'};
     paint();
     sill_header(header, sizeof header, filled, store, SILL_STORE_BYTES, told);
+    memset(run, 5, sizeof run);
+    run[0] = 1;
     memset(told, PAINT, sizeof told);
     memcpy(was_store, store, sizeof store);
+    memcpy(was_run, run, sizeof run);
     memcpy(was_filled, filled, sizeof filled);
 }
 
-/* The calls that take a store, each with so many bytes of it: a filled slot and an empty one, and headers that are good, cut and too long. */
+/* A message of 15 bytes: its header brings "b" into slot 6 and refers to slot 5, and its term is the tuple of both by their positions, "a" first. */
+#define HEADER 131, 68, 2, 8, 0, 6, 1, 'b', 5
+#define MESSAGE HEADER, 104, 2, 82, 1, 82, 0
+
+/* The calls that take a store, each with so many bytes of it: a filled slot and an empty one, headers that are good, cut and too long, positions of
+ * the header that was lent, and messages. */
 static void stored(size_t n) {
     const int fits = n == SILL_STORE_BYTES;
 #define STORED(...) (fits ? (const uint64_t[SILL_HEAD_TOLD]){__VA_ARGS__} : (const uint64_t[SILL_HEAD_TOLD]){SILL_STORE})
@@ -91,6 +105,118 @@ static void stored(size_t n) {
     lend();
     sill_header(bytes, SILL_LONGEST + 1, filled, store, n, told);
     expect("sill_header, long", n, STORED(SILL_LONG), SILL_HEADER_TOLD, 1);
+
+    lend();
+    sill_position(filled, store, n, run, 0, told);
+    expect("sill_position", n, STORED(SILL_DONE, 5 * 256 + 1, 1), SILL_GET_TOLD, 1);
+    lend();
+    sill_position(filled, store, n, run, 1, told);
+    expect("sill_position, past", n, STORED(SILL_ABSENT), SILL_GET_TOLD, 1);
+    lend();
+    run[1] = was_run[1] = 6;
+    sill_position(filled, store, n, run, 0, told);
+    expect("sill_position, empty", n, STORED(SILL_ABSENT), SILL_GET_TOLD, 1);
+
+    memcpy(bytes, (const uint8_t[]){MESSAGE}, 15);
+    lend();
+    sill_atom(bytes, 15, 13, filled, store, n, run, told);
+    expect("sill_atom", n, STORED(SILL_DONE, 5 * 256 + 1, 1), SILL_GET_TOLD, 1);
+    lend();
+    sill_atom(bytes, 15, 11, filled, store, n, run, told);
+    expect("sill_atom, past", n, STORED(SILL_ABSENT), SILL_GET_TOLD, 1);
+    lend();
+    sill_atom(bytes, 15, 9, filled, store, n, run, told);
+    expect("sill_atom, a tuple", n, STORED(SILL_TAG), SILL_GET_TOLD, 1);
+    lend();
+    sill_atom(bytes, 14, 13, filled, store, n, run, told);
+    expect("sill_atom, cut", n, STORED(SILL_EOF), SILL_GET_TOLD, 1);
+    lend();
+    sill_atom(bytes, 15, SIZE_MAX, filled, store, n, run, told);
+    expect("sill_atom, behind", n, STORED(SILL_EOF), SILL_GET_TOLD, 1);
+    lend();
+    sill_atom(bytes, SILL_LONGEST + 1, 13, filled, store, n, run, told);
+    expect("sill_atom, long", n, STORED(SILL_LONG), SILL_GET_TOLD, 1);
+
+    lend();
+    sill_message(bytes, 15, SILL_DEEPEST, filled, store, n, run, tape, WORDS, told, path);
+    expect("sill_message", n, STORED(SILL_DONE, 15, 0, 0, 3, 2, 0), SILL_TOLD, !fits);
+    if (fits) {
+        for (uint8_t k = 0; k < 2; k++) {
+            sill_position(filled, store, n, run, k, told);
+            failed |= told[0] != SILL_DONE || told[2] != 1 || store[told[1]] != (k ? 'a' : 'b');
+            sill_atom(bytes, 15, tape[(2 - k) * SILL_CELL + SILL_CELL_START], filled, store, n, run, told);
+            failed |= told[0] != SILL_DONE || told[2] != 1 || store[told[1]] != (k ? 'a' : 'b');
+        }
+        failed |= memcmp(store + n, was_store + n, sizeof store - n) != 0;
+    }
+    lend();
+    sill_message(bytes, 1, SILL_DEEPEST, filled, store, n, run, tape, WORDS, told, path);
+    expect("sill_message, cut", n, STORED(SILL_EOF), SILL_TOLD, 1);
+    lend();
+    sill_message(bytes, SILL_LONGEST + 1, SILL_DEEPEST, filled, store, n, run, tape, WORDS, told, path);
+    expect("sill_message, long", n, STORED(SILL_LONG), SILL_TOLD, 1);
+    lend();
+    sill_message(bytes, SILL_LONGEST + 1, 0, filled, store, n, run, tape, WORDS, told, path);
+    expect("sill_message, 0 deep", n, (const uint64_t[SILL_TOLD]){SILL_LIMIT}, SILL_TOLD, 1);
+}
+
+/* What a message leaves: nothing, its name, its header in the run too, its tape too. */
+enum left { NOTHING, NAMED, NOTED, TAPED };
+
+/* Reads the message in `bytes`, over what is lent: it must tell this, leave that, and have the path of a tuple's element where there is one. */
+static void message(const char *what, size_t len, size_t limit, size_t words, enum left left, const uint64_t *want, uint64_t element) {
+    char call[32];
+    snprintf(call, sizeof call, "message, %s", what);
+    sill_message(bytes, len, limit, filled, store, SILL_STORE_BYTES, run, tape, words, told, path);
+    if (NAMED <= left) memcpy(was_store + 6 * 256, "\1b", 2), was_filled[0] |= 1 << 6;
+    if (NOTED <= left) memcpy(was_run, (const uint8_t[]){2, 6, 5}, 3);
+    if (TAPED <= left) memcpy(was_tape, (const uint32_t[]){104, 9, 15, 0, 3, 82, 11, 13, 0, 1, 82, 13, 15, 0, 1}, 3 * SILL_CELL * sizeof *tape);
+    if (want[SILL_SEGMENTS]) was_path[0] = SILL_IN_TUPLE, was_path[1] = element;
+    expect(call, len, want, SILL_TOLD, 1);
+}
+
+/* Messages that begin with these bytes and go on with 0, refused in each of the ways that a header has, and behind it. */
+static const struct {
+    const char *what;
+    size_t len, limit, words;
+    enum left left;
+    uint64_t want[SILL_TOLD];
+    uint8_t front[20];
+} messages[] = {
+    {"limit 65", 15, 65, WORDS, NOTHING, {SILL_LIMIT}, {MESSAGE}},
+    {"no byte", 0, 64, WORDS, NOTHING, {SILL_EOF}, {0}},
+    {"byte 130", 15, 64, WORDS, NOTHING, {SILL_TAG}, {130}},
+    {"a record", 15, 64, WORDS, NOTHING, {SILL_KIND, 0, 0, 104}, {131, 104}},
+    {"no count", 2, 64, WORDS, NOTHING, {SILL_EOF}, {MESSAGE}},
+    {"a flag missing", 4, 64, WORDS, NOTHING, {SILL_EOF}, {MESSAGE}},
+    {"it and a segment", 4, 64, WORDS, NOTHING, {SILL_EOF}, {131, 68, 2, 9}},
+    {"segment, new", 15, 64, WORDS, NOTHING, {SILL_SEGMENT}, {131, 68, 2, 9, 0, 6, 1, 'b', 5}},
+    {"segment, old", 15, 64, WORDS, NOTHING, {SILL_SEGMENT}, {131, 68, 2, 8 + 64, 0, 6, 1, 'b', 5}},
+    {"segment, cut", 5, 64, WORDS, NOTHING, {SILL_SEGMENT}, {131, 68, 2, 8 + 16, 0}},
+    {"a name missing", 7, 64, WORDS, NOTHING, {SILL_EOF}, {MESSAGE}},
+    {"a slot missing", 8, 64, WORDS, NAMED, {SILL_EOF}, {MESSAGE}},
+    {"not UTF-8", 12, 64, WORDS, NAMED, {SILL_TEXT}, {131, 68, 2, 136, 0, 6, 1, 'b', 5, 1, 128, 106}},
+    {"a name of 256", 12 + 256, 64, WORDS, NAMED, {SILL_NAME}, {131, 68, 2, 136, 1, 6, 0, 1, 'b', 5, 1, 0}},
+    {"no term", 9, 64, WORDS, NOTED, {SILL_EOF, 0, 9}, {MESSAGE}},
+    {"a byte missing", 14, 64, WORDS, NOTED, {SILL_EOF, 0, 13, 0, 3, 2, 1}, {MESSAGE}},
+    {"past the list", 15, 64, WORDS, NOTED, {SILL_TAG, 0, 13, 0, 3, 2, 1}, {HEADER, 104, 2, 82, 1, 82, 2}},
+    {"a byte left", 16, 64, WORDS, NOTED, {SILL_TRAILING, 0, 15, 1, 3, 2}, {MESSAGE}},
+    {"a word too few", 15, 64, 3 * SILL_CELL - 1, NOTED, {SILL_ROOM, 0, 0, 3, 3, 2}, {MESSAGE}},
+    {"room", 15, 64, 3 * SILL_CELL, TAPED, {SILL_DONE, 15, 0, 0, 3, 2}, {MESSAGE}},
+    {"other flag bits", 15, 64, WORDS, TAPED, {SILL_DONE, 15, 0, 0, 3, 2}, {131, 68, 2, 8, 0xfe, 6, 1, 'b', 5, 104, 2, 82, 1, 82, 0}},
+    {"longest", SILL_LONGEST, 64, WORDS, NOTED, {SILL_TRAILING, 0, 15, SILL_LONGEST - 15, 3, 2}, {MESSAGE}},
+    {"too long", SILL_LONGEST + 1, 64, WORDS, NOTHING, {SILL_LONG}, {MESSAGE}},
+};
+
+static void left_behind(void) {
+    for (size_t i = 0; i < sizeof messages / sizeof *messages; i++) {
+        memcpy(bytes, messages[i].front, sizeof messages[i].front);
+        lend();
+        message(messages[i].what, messages[i].len, messages[i].limit, messages[i].words, messages[i].left, messages[i].want, 1);
+    }
+    /* over no name */
+    paint();
+    message("an empty slot", 15, 64, WORDS, NOTED, (const uint64_t[SILL_TOLD]){SILL_TAG, 0, 11, 0, 2, 2, 1}, 0);
 }
 
 /* Writing. The texts are in `bytes`, all of it, but where they are said to be fewer. */
@@ -111,7 +237,7 @@ static void write(const char *what, size_t room, uint64_t number, uint64_t len, 
     sill_write((const uint64_t *)items, SILL_ITEM * row, bytes, texts, out, room, told);
     bad |= memcmp(told, want, sizeof want) != 0 || (told[SILL_WRITE_TOLD] & 255) != PAINT;
     for (size_t i = len; i < room + BEHIND; i++) bad |= out[i] != PAINT;
-    printf("%-16s %s: tells %llu first%s\n", "sill_write", what, (unsigned long long)told[0], bad ? " AND NOT AS EXPECTED" : "");
+    printf("%-24s %s: tells %llu first%s\n", "sill_write", what, (unsigned long long)told[0], bad ? " AND NOT AS EXPECTED" : "");
     failed |= bad;
 }
 
@@ -131,7 +257,7 @@ static void done(const char *what, size_t len, const uint8_t *front, size_t n, u
     row = 0;
     sill_term(out, len, 1, SILL_DEEPEST, told, path);
     if (memcmp(out, front, n) != 0 || told[SILL_NUMBER] != SILL_DONE || told[SILL_END] != len || told[SILL_BEGUN] != terms) {
-        printf("%-16s %s: NOT AS EXPECTED\n", "bytes", what);
+        printf("%-24s %s: NOT AS EXPECTED\n", "bytes", what);
         failed = 1;
     }
 }
@@ -232,7 +358,7 @@ static void shapes(void) {
     for (size_t words = SILL_ITEM + 1; words < 2 * SILL_ITEM; words++) {
         memset(out, PAINT, BEHIND);
         sill_write((const uint64_t *)items, words, bytes, texts, out, BEHIND, told);
-        printf("%-16s %zu words: tells %llu first\n", "sill_write", words, (unsigned long long)told[0]);
+        printf("%-24s %zu words: tells %llu first\n", "sill_write", words, (unsigned long long)told[0]);
         failed |= told[0] != SILL_ITEMS || out[0] != PAINT;
     }
 }
@@ -240,6 +366,7 @@ static void shapes(void) {
 int main(void) {
     static const size_t stores[] = {0, 1, SILL_STORE_BYTES - 1, SILL_STORE_BYTES, SILL_STORE_BYTES + 1, 2 * SILL_STORE_BYTES};
     for (size_t i = 0; i < sizeof stores / sizeof *stores; i++) stored(stores[i]);
+    left_behind();
     for (size_t n = SILL_LONGEST; n <= SILL_LONGEST + 1; n++) {
         const int fits = n == SILL_LONGEST;
         const uint64_t number = fits ? SILL_DONE : SILL_LONG;
@@ -278,12 +405,34 @@ int main(void) {
         sill_find_number(bytes, n, 1, SILL_DEEPEST, 7, told, path);
         expect("sill_find_number", n, TOLD(0, n, 8, 0, 3, 2, 0), SILL_TOLD, 1);
 
-        /* a header with one new name, "a" in slot 5, and fragments: what follows them is the rest */
+        /* a header with one new name, "a" in slot 5: what follows it is the rest */
         memcpy(bytes, (const uint8_t[]){131, 68, 1, 8, 5, 1, 'a'}, 7);
         paint();
         sill_header(bytes, n, filled, store, SILL_STORE_BYTES, told);
         expect("sill_header", n, TOLD(0, 7, 0), SILL_HEADER_TOLD, !fits);
         failed |= sill_count(filled) != (fits ? 1 : 0);
+
+        /* behind such a header a tuple of that name and a binary; then its last two bytes are the name again */
+        memcpy(bytes + 7, (const uint8_t[]){104, 2, 82, 0}, 4);
+        binary(11, n);
+        paint();
+        sill_message(bytes, n, SILL_DEEPEST, filled, store, SILL_STORE_BYTES, run, tape, WORDS, told, path);
+        expect("sill_message", n, TOLD(0, n, 0, 0, 3, 2, 0), SILL_TOLD, !fits);
+        failed |= sill_count(filled) != (fits ? 1 : 0);
+        if (fits) {
+            const uint32_t cells[] = {104, 7, SILL_LONGEST, 0, 3, 82, 9, 11, 0, 1, 109, 11, SILL_LONGEST, 0, 1};
+            failed |= memcmp(tape, cells, sizeof cells) || memcmp(tape + 3 * SILL_CELL, was_tape + 3 * SILL_CELL, sizeof tape - sizeof cells);
+            failed |= run[0] != 1 || run[1] != 5 || memcmp(run + 2, was_run + 2, sizeof run - 2);
+        }
+        memcpy(bytes + n - 2, (const uint8_t[]){82, 0}, 2);
+        lend();
+        sill_atom(bytes, n, 9, filled, store, SILL_STORE_BYTES, run, told);
+        expect("sill_atom, first", n, TOLD(0, 5 * 256 + 1, 1), SILL_GET_TOLD, 1);
+        lend();
+        sill_atom(bytes, n, n - 2, filled, store, SILL_STORE_BYTES, run, told);
+        expect("sill_atom, last", n, TOLD(0, 5 * 256 + 1, 1), SILL_GET_TOLD, 1);
+
+        /* fragments, of which the same is true */
         memcpy(bytes, (const uint8_t[]){131, 69, 0, 0, 0, 0, 0, 0, 0, 2, 0, 0, 0, 0, 0, 0, 0, 3, 4}, 19);
         paint();
         sill_first(bytes, n, told);
@@ -296,7 +445,7 @@ int main(void) {
         /* text has no such limit */
         memset(bytes, 'a', n);
         if (sill_utf8(bytes, n) != n) failed = 1;
-        printf("%-16s %zu bytes: %zu are good\n", "sill_utf8", n, sill_utf8(bytes, n));
+        printf("%-24s %zu bytes: %zu are good\n", "sill_utf8", n, sill_utf8(bytes, n));
     }
     /* all of them are letters now */
     caps();

@@ -38,7 +38,8 @@ enum sill_number {
     SILL_LIMIT = 14,   /* a nesting limit of 0 or over SILL_DEEPEST */
     SILL_STORE = 15,   /* a name store of other than SILL_STORE_BYTES */
     SILL_ABSENT = 16,  /* no such key or name */
-    SILL_ITEMS = 17    /* a row of items that can't be written */
+    SILL_ITEMS = 17,   /* a row of items that can't be written */
+    SILL_SEGMENT = 18  /* a message's header has a segment number that isn't 0 */
 };
 
 /* What a segment of a path is of. Its number is the index, for a map's value the place of the key, else 0. */
@@ -62,7 +63,7 @@ enum sill_cell {
     SILL_CELL = 5 /* words to a cell */
 };
 
-/* The words that a read or a lookup tells: a place in `told` each. */
+/* The words that a read, of a record or of a message, or a lookup tells: a place in `told` each. */
 enum sill_told {
     SILL_NUMBER = 0,
     SILL_END = 1,      /* where the term ends; 0 when refused */
@@ -108,6 +109,7 @@ enum sill_size {
     SILL_PATH = 128,          /* words of a path: two for each of 64 segments */
     SILL_FILLED = 4,          /* words that say which slots of a store are filled */
     SILL_STORE_BYTES = 65536, /* 256 slots of 256 bytes */
+    SILL_POSITIONS = 256,     /* bytes that keep a header's references: how many, and the slot of each of up to 255 */
     SILL_PART_TOLD = 2,
     SILL_GET_TOLD = 3,
     SILL_HEADER_TOLD = 3,
@@ -165,6 +167,34 @@ void sill_get(const uint64_t filled[4], const uint8_t *store, size_t store_len, 
  * ignored. Told: number, where the rest begins (0 when refused), extra. Each new name goes into its slot, and the slot's bit into `filled`, when
  * it is complete; a fault behind it keeps it. Refused: Store, Long (neither stores anything), then Eof, Tag, Kind, and for a name Eof, Text, Name. */
 void sill_header(const uint8_t *b, size_t len, uint64_t filled[4], uint8_t *store, size_t store_len, uint64_t told[3]);
+
+/* Reads a message: an atom header and one term behind it to the input's end, nested at most `limit` deep; writes the term's tape as sill_read does.
+ * In this term, and for no other call, tag 82 and one byte is an atom too, wherever an atom may stand. The byte is no slot: it is a position among
+ * the header's references, old ones included, from 0 on, and means the name that the reference's slot holds when the whole header is read. The cell
+ * of such an atom has tag 82 and two bytes, and sill_atom tells its name.
+ *
+ * A drawer's message must have segment number 0 in every reference, old ones too: its names are those of 256 slots. Each new name is stored as by
+ * sill_header, and stays stored whatever is refused behind it: another name, the term, bytes left, too few cells. `run` keeps the references of the
+ * last header for sill_position and sill_atom: byte 0 is how many they are, byte 1 + k the slot of reference k. Set all of it to 0 before a drawer's
+ * first message, and lend `filled`, `store` and `run` of one drawer together. A header that is read to its end is noted in `run`, whatever becomes of
+ * its term; bytes behind the last slot stay. A refused header leaves `run` as it was.
+ *
+ * Told and `path` as by sill_read; offsets and cells are places in the whole input, so that the root starts where the header ends. Refused, in this
+ * order: Limit, Store, Long; of the header Eof, Tag, Kind, Eof up to its last flag, Segment, and for its references Eof, Text, Name, all with offset
+ * and counts 0 and no path; then as sill_read refuses the term, with Eof where nothing stands behind the header and Tag at the start of an atom whose
+ * position the header doesn't have or whose slot is empty; then Trailing, then Room. Limit, Store, Long and Segment store nothing. Only a Done read
+ * writes to the tape, and words behind its last cell stay. */
+void sill_message(const uint8_t *b, size_t len, size_t limit, uint64_t filled[4], uint8_t *store, size_t store_len, uint8_t run[256],
+                  uint32_t *tape, size_t words, uint64_t told[7], uint64_t path[128]);
+
+/* The name at a position of the last header that sill_message has read to its end; told as by sill_get. It is what the slot holds now: ask before
+ * the next message, which may bring another name for it. Refused: Store, then Absent where the header has no such position or the slot is empty. */
+void sill_position(const uint64_t filled[4], const uint8_t *store, size_t store_len, const uint8_t run[256], uint8_t position, uint64_t told[3]);
+
+/* The same for the atom of tag 82 at a place of that message, any place: the start of a cell of tag 82. Refused: Store, Long, then Eof, Tag where
+ * another tag stands there, Eof where no byte stands behind it, then Absent. */
+void sill_atom(const uint8_t *b, size_t len, size_t at, const uint64_t filled[4], const uint8_t *store, size_t store_len, const uint8_t run[256],
+               uint64_t told[3]);
 
 /* Reads the header of a message's first fragment: 131, 69. Told: number, where the rest begins, extra, sequence, fragment, count of names;
  * all 0 but number and extra when refused. Refused: Long, Eof, Version, Kind. */

@@ -9,7 +9,7 @@
 
 enum { STACK = 1 << 19, CELLS = 3276, LONGEST_LINK = 64 };
 
-static uint8_t stack[STACK], bytes[1 << 16], store[SILL_STORE_BYTES], out[1 << 12];
+static uint8_t stack[STACK], bytes[1 << 16], store[SILL_STORE_BYTES], run[SILL_POSITIONS], out[1 << 12];
 static uint32_t tape[CELLS * SILL_CELL];
 static uint64_t told[SILL_HEAD_TOLD], path[SILL_PATH], filled[SILL_FILLED];
 static struct sill_item items[2 * SILL_DEEPEST + 4];
@@ -19,6 +19,7 @@ static ucontext_t here, there;
 static void nothing(void) {}
 static void read(void) { sill_read(bytes, len, SILL_DEEPEST, tape, CELLS * SILL_CELL, told, path); }
 static void term(void) { sill_term(bytes, len, 1, SILL_DEEPEST, told, path); }
+static void message(void) { sill_message(bytes, len, SILL_DEEPEST, filled, store, sizeof store, run, tape, CELLS * SILL_CELL, told, path); }
 static void find_name(void) { sill_find_name(bytes, len, 1, SILL_DEEPEST, (const uint8_t *)"a", 1, told, path); }
 static void find_number(void) { sill_find_number(bytes, len, 1, SILL_DEEPEST, 7, told, path); }
 static void head(void) { sill_head(bytes, len, 1, told); }
@@ -27,16 +28,22 @@ static void empty(void) { sill_empty(filled); }
 static void count(void) { sill_count(filled); }
 static void get(void) { sill_get(filled, store, sizeof store, 5, told); }
 static void header(void) { sill_header(bytes, len, filled, store, sizeof store, told); }
+static void position(void) { sill_position(filled, store, sizeof store, run, 5, told); }
 static void first(void) { sill_first(bytes, len, told); }
 static void next(void) { sill_next(bytes, len, told); }
 static void utf8(void) { sill_utf8(bytes, len); }
 
-/* The writer, or an empty call with as many arguments: what the caller lays down for the last of them is the caller's. */
+/* The writer and the name of an atom, or an empty call with as many arguments: what the caller lays down for the last of them is the caller's. */
 static void no_write(const uint64_t *r, size_t w, const uint8_t *t, size_t n, uint8_t *o, size_t room, uint64_t *to) {
     (void)r, (void)w, (void)t, (void)n, (void)o, (void)room, (void)to;
 }
 static void (*volatile writer)(const uint64_t *, size_t, const uint8_t *, size_t, uint8_t *, size_t, uint64_t *);
 static void write(void) { writer((const uint64_t *)items, SILL_ITEM * row, bytes, len, out, sizeof out, told); }
+static void no_atom(const uint8_t *b, size_t n, size_t at, const uint64_t *f, const uint8_t *s, size_t m, const uint8_t *r, uint64_t *to) {
+    (void)b, (void)n, (void)at, (void)f, (void)s, (void)m, (void)r, (void)to;
+}
+static void (*volatile namer)(const uint8_t *, size_t, size_t, const uint64_t *, const uint8_t *, size_t, const uint8_t *, uint64_t *);
+static void atom(void) { namer(bytes, len, len - 2, filled, store, sizeof store, run, told); }
 
 static size_t painted(void (*call)(void), uint8_t paint) {
     size_t i = 0;
@@ -90,10 +97,13 @@ static const struct link links[] = {
     {53, 0, {FUNCTION, ATOM, 97, 0, 97, 0, PID}, {0}},
 };
 
-/* A record of n links around a leaf. */
-static void chain(const struct link *link, int n, const uint8_t *leaf, size_t leaf_len) {
-    bytes[0] = 131;
-    len = 1;
+/* A header with "a" in slot 5. Its first byte is a record's too. */
+static const uint8_t front[] = {131, 68, 1, 8, 5, 1, 'a'};
+
+/* A record, or where it has a whole front a message, of n links around a leaf. */
+static void chain(size_t before, const struct link *link, int n, const uint8_t *leaf, size_t leaf_len) {
+    memcpy(bytes, front, before);
+    len = before;
     for (int i = 0; i < n; i++, len += link->front) memcpy(bytes + len, link->before, link->front);
     memcpy(bytes + len, leaf, leaf_len);
     len += leaf_len;
@@ -114,29 +124,31 @@ int main(void) {
     static const struct {
         const char *name;
         void (*call)(void);
-    } deep[] = {{"sill_read", read}, {"sill_term", term}, {"sill_find_name", find_name}, {"sill_find_number", find_number}, {"sill_head", head}, {"sill_part", part}};
-    /* a long name, so that text is checked in the deepest term; a number text; a big integer */
+        size_t front;
+    } deep[] = {{"sill_read", read, 1}, {"sill_term", term, 1}, {"sill_find_name", find_name, 1}, {"sill_find_number", find_number, 1},
+                {"sill_head", head, 1}, {"sill_part", part, 1}, {"sill_message", message, sizeof front}};
+    /* a long name, so that text is checked in the deepest term; a number text; a big integer; the front's name */
     static const uint8_t nil[] = {106}, name[] = {118, 0, 9, 'n', 'a', 'm', 'e', 0xc3, 0xa9, 0xe2, 0x82, 0xac},
                          text[] = {99, '1', '.', '5', 'e', '+', '1', '0', 0, 0, 0, 0, 0, 0, 0, 0, 0, 0, 0, 0, 0, 0, 0, 0, 0, 0, 0, 0, 0, 0, 0, 0},
-                         bits[] = {77, 0, 0, 0, 1, 8, 0}, pid[] = {PID};
+                         bits[] = {77, 0, 0, 0, 1, 8, 0}, pid[] = {PID}, known[] = {82, 0};
     static const struct {
         const uint8_t *bytes;
         size_t len;
-    } leaves[] = {{nil, sizeof nil}, {name, sizeof name}, {text, sizeof text}, {bits, sizeof bits}, {pid, sizeof pid}};
+    } leaves[] = {{nil, sizeof nil}, {name, sizeof name}, {text, sizeof text}, {bits, sizeof bits}, {pid, sizeof pid}, {known, sizeof known}};
     const size_t none = used(nothing);
     for (size_t c = 0; c < sizeof deep / sizeof *deep; c++) {
         size_t n = 0;
         for (size_t k = 0; k < sizeof links / sizeof *links; k++)
             for (size_t l = 0; l < sizeof leaves / sizeof *leaves; l++)
                 for (int levels = 61; levels <= 65; levels++) {
-                    chain(&links[k], levels, leaves[l].bytes, leaves[l].len);
+                    chain(deep[c].front, &links[k], levels, leaves[l].bytes, leaves[l].len);
                     size_t m = used(deep[c].call) - none;
                     if (n < m) n = m;
                 }
         printf("%s %zu\n", deep[c].name, n);
     }
 
-    /* a header of 255 new names, each in a slot of its own */
+    /* a message: 255 new names, each in a slot of its own, and one of them by its position */
     bytes[0] = 131;
     bytes[1] = 68;
     bytes[2] = 255;
@@ -149,11 +161,23 @@ int main(void) {
         memcpy(bytes + len, name + 3, sizeof name - 3);
         len += sizeof name - 3;
     }
+    bytes[len++] = 82;
+    bytes[len++] = 254;
     printf("sill_empty %zu\n", used(empty) - none);
     printf("sill_header %zu\n", used(header) - none);
     if (sill_count(filled) != 255) return 1;
     printf("sill_count %zu\n", used(count) - none);
     printf("sill_get %zu\n", used(get) - none);
+    message();
+    if (told[0] != SILL_DONE) return 1;
+    printf("sill_position %zu\n", used(position) - none);
+    namer = no_atom;
+    {
+        size_t call = used(atom);
+        namer = sill_atom;
+        printf("sill_atom %zu\n", used(atom) - call);
+    }
+    if (told[0] != SILL_DONE) return 1;
     memcpy(bytes, (const uint8_t[]){131, 69, 0, 0, 0, 0, 0, 0, 0, 2, 0, 0, 0, 0, 0, 0, 0, 3, 4}, 19);
     len = 19;
     printf("sill_first %zu\n", used(first) - none);

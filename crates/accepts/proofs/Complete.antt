@@ -8,6 +8,7 @@ use mathlib.Core.Bool.{Bool, true}
 use mathlib.Core.List.{List, [], _++_, append-assoc, append-nil}
 use lib.ListN.{length, getD, length-append}
 use borrow.Author.Tests.{lt-ltb, le-leb}
+use Rattle.numbers.specs.Allowed.{Allowed}
 use Rattle.fields.specs.Be.{be}
 use Rattle.fields.specs.Field.{numberAt}
 use Rattle.fields.proofs.Laws.{is-there, number-of}
@@ -135,12 +136,12 @@ module _ (b : List ℕ) (around : ℕ) where
   behind-child {l} {n} e = record { over = passed l n e }
 
   -- a row without children
-  rowed : {tag : ℕ} {l : List ℕ} → Leaf tag l → Parts (λ s. fields (rows.rowAt b tag (s .at)) s) l none []
+  rowed : {allow : Allowed} {tag : ℕ} {l : List ℕ} → Leaf allow tag l → Parts (λ s. fields (rows.leafAt allow b tag (s .at)) s) l none []
   unfolding bytesAll sizes depths
-  rowed {l = l} w = record {
+  rowed {allow = allow} {l = l} w = record {
     over = simp append-nil (record {
       run = λ s h.
-          record { stop = moved (s .at + length l) s; is = fields-to s (leaf-complete b (s .at) w h); at = refl; counted = omega arith; rises = omega arith; nested = omega arith };
+          record { stop = moved (s .at + length l) s; is = fields-to s (leaf-complete allow b (s .at) w h); at = refl; counted = omega arith; rises = omega arith; nested = omega arith };
     });
   }
 
@@ -201,8 +202,9 @@ module _ (b : List ℕ) (around : ℕ) where
         go p lay.atom-100 e = rw e
         go p lay.atom-118 e = rw e
         go p lay.atom-119 e = rw e
+        go p lay.atom-82 e = rw e
 
-    a-natural : {x : Tree} {most : ℕ} → Child read x → IsNatural most x → Laid x → Child (required read (isNatural most b)) x
+    a-natural : {allow : Allowed} {x : Tree} {most : ℕ} → Child read x → IsNatural most x → Laid allow x → Child (required read (isNatural most b)) x
     unfolding isNatural
     a-natural {most = most} c (lay.natural-97 {l = l} k) (lay.row (lay.small-integer e)) =
         needed (isNatural most b) c (λ p h. rw (first (leaf 97 l) p h, field 97 1 p l e h, le-leb (be l) most k))
@@ -213,11 +215,11 @@ module _ (b : List ℕ) (around : ℕ) where
     a-pid {x} c e = needed (isPid b) c (λ p h. is-pid b p (first x p h ∙ e))
 
     -- a tag of a row without children is none of the others
-    plain : {tag : ℕ} {l : List ℕ} → Leaf tag l → (s : State) → body read b tag s ≡ fields (rows.rowAt b tag (s .at)) s
+    plain : {allow : Allowed} {tag : ℕ} {l : List ℕ} → Leaf allow tag l → (s : State) → body allow read b tag s ≡ fields (rows.leafAt allow b tag (s .at)) s
     unfolding body
     plain (lay.small-integer _) s = refl
     plain (lay.integer _) s = refl
-    plain (lay.number-text _ _) s = refl
+    plain (lay.number-text _ _ _) s = refl
     plain (lay.double _) s = refl
     plain (lay.old-atom _ _ _ _) s = refl
     plain (lay.atom _ _ _ _) s = refl
@@ -228,15 +230,16 @@ module _ (b : List ℕ) (around : ℕ) where
     plain (lay.bit-string _ _ _ _ _ _) s = refl
     plain (lay.small-big _ _ _ _) s = refl
     plain (lay.large-big _ _ _ _) s = refl
+    plain (lay.position _ _) s = refl
 
     -- what stands behind a tag, where children to the depth d are read
-    module _ (d : ℕ) (reads : (t : Tree) → Laid t → depth t ≤ d → Child read t) where
-      each : {ts : Forest} → AllLaid ts → depths ts ≤ d → Each ts
+    module _ {allow : Allowed} (d : ℕ) (reads : (t : Tree) → Laid allow t → depth t ≤ d → Child read t) where
+      each : {ts : Forest} → AllLaid allow ts → depths ts ≤ d → Each ts
       unfolding depths
       each lay.no-more h = no-more
       each (lay.one-more x xs) h = one-more (reads _ x (omega arith)) (each xs (omega arith))
 
-      rest : {tag : ℕ} {front : List ℕ} {kids : Forest} {back : List ℕ} → Laid (node tag front kids back) → depths kids ≤ d → Parts (body read b tag) front kids back
+      rest : {tag : ℕ} {front : List ℕ} {kids : Forest} {back : List ℕ} → Laid allow (node tag front kids back) → depths kids ≤ d → Parts (body allow read b tag) front kids back
       unfolding depths body terms.smallTuple terms.largeTuple terms.list terms.map terms.pid terms.reference terms.export terms.function terms.captured
       rest (lay.row w) h = same (plain w) (rowed w)
       rest (lay.small-tuple n ts) h = counting _ n (elements (each ts h) kind.Tuple 0)
@@ -263,8 +266,8 @@ one-deeper : (around deep stop d : ℕ) {w : ℕ} → w ≡ suc around → max d
 one-deeper around deep stop d e h k = omega arith
 
 -- a term: its tag, and what stands behind it with one level less
-module _ (b : List ℕ) (limit : ℕ) where
-  laid : (rem : ℕ) {t : Tree} → Laid t → depth t ≤ rem → rem ≤ limit → Child b (limit - rem) (term b limit rem) t
+module _ (allow : Allowed) (b : List ℕ) (limit : ℕ) where
+  laid : (rem : ℕ) {t : Tree} → Laid allow t → depth t ≤ rem → rem ≤ limit → Child b (limit - rem) (term allow b limit rem) t
   unfolding term depth bytes size
   laid zero {t = node tag front kids back} w d m = absurd (omega arith)
   laid (suc r) {t = node tag front kids back} w d m = record {
@@ -272,7 +275,7 @@ module _ (b : List ℕ) (limit : ℕ) where
       run = λ s h.
           let l = front ++ (bytesAll kids ++ back) in
           let i : s .at < length b = omega (arith, h .inside) in
-          let c = rest b (limit - r) (term b limit r) r (λ t x k. laid r x k (omega arith)) w (omega arith) .over .run (begin (limit - r) s) (behind b (s .at) tag l h) in
+          let c = rest b (limit - r) (term allow b limit r) r (λ t x k. laid r x k (omega arith)) w (omega arith) .over .run (begin (limit - r) s) (behind b (s .at) tag l h) in
           record {
             stop = c .stop;
             is = rw (lt-ltb (s .at) (length b) i, byte b (s .at) tag l h) (c .is);
@@ -285,6 +288,6 @@ module _ (b : List ℕ) (limit : ℕ) where
   }
 
   -- a layout is read to its end
-  pub complete : {t : Tree} → Laid t → (rem : ℕ) (s : State) → depth t ≤ rem → rem ≤ limit → Stands b (s .at) (bytes t) →
-      Reads (term b limit rem s) s (s .at + length (bytes t)) (size t) (limit - rem) (depth t)
+  pub complete : {t : Tree} → Laid allow t → (rem : ℕ) (s : State) → depth t ≤ rem → rem ≤ limit → Stands b (s .at) (bytes t) →
+      Reads (term allow b limit rem s) s (s .at + length (bytes t)) (size t) (limit - rem) (depth t)
   complete w rem s d m h = laid rem w d m .over .run s h

@@ -6,7 +6,7 @@ use mathlib.Core.Path.{_≡_, refl, ap, sym, _∙_}
 use mathlib.Core.Logic.{_↔_}
 use mathlib.Core.List.{List, [], _∷_, _++_}
 use mathlib.Core.Bool.{Bool, true, false, cond, _||_}
-use borrow.Author.Tests.{eqb-true, leb-true, le-leb}
+use borrow.Author.Tests.{eqb-true, eqb-false, leb-true, le-leb}
 use lib.Dec.{eqb, leb}
 use lib.ListN.{length, take, drop, length-append}
 use Rattle.fields.specs.Be.{be}
@@ -23,6 +23,7 @@ use Rattle.literal.specs.Inner.Parse.{isLiteral}
 use Rattle.literal.proofs.Meaning.{literal-is}
 use Rattle.literal.proofs.Trims.{trimmed-is, trimmed-once}
 use Rattle.numbers.specs.Caps as cap
+use Rattle.numbers.specs.Allowed.{Allowed}
 use Rattle.numbers.specs.Numbers as number
 use Rattle.rows.specs.Row as row
 use Rattle.rows.specs.Layout as rows
@@ -36,9 +37,9 @@ use Rattle.layouts.specs.Layout.{Number, NumberText, Leaf}
 use Rattle.layouts.proofs.Stands.{part, stands, empty, both, left, right, spells, number as number-at}
 
 -- a run of bytes behind a tag, which is a row without children and ends at e
-pub record Rowed (b : List ℕ) (tag p e : ℕ) : Type 0 where
+pub record Rowed (allow : Allowed) (b : List ℕ) (tag p e : ℕ) : Type 0 where
   pub front : List ℕ
-  pub row : Leaf tag front
+  pub row : Leaf allow tag front
   pub stands : Stands b p front
   pub ends : e ≡ p + length front
 
@@ -91,6 +92,10 @@ Digits n = Joined (λ l. length l ≡ 1) (λ l. length l ≡ n)
 
 abbrev Bits : ℕ → List ℕ → Type 0
 Bits n l = (n ≤ cap.binary) × Counted 1 (λ k m. (cap.bitsByte n k ≡ true) × (length m ≡ n)) l
+
+-- no more behind a position that is known
+abbrev Known : Allowed → ℕ → List ℕ → Type 0
+Known allow k l = (allow .known k ≡ true) × (length l ≡ 0)
 
 -- the text of a number
 abbrev Text : List ℕ → Type 0
@@ -214,6 +219,10 @@ module _ (b : List ℕ) where
   unfolding rows.digits
   big-reads k p = sized-reads k p (rows.digits b) (λ n. then-reads (row.bytes b 1 (p + k)) (row.bytes b n) (bytes-reads 1 (p + k)) (bytes-reads n))
 
+  position-reads : (allow : Allowed) (p : ℕ) → Reads b p (row.sized 1 b (λ k q. cond (allow .known k) (row.bytes b 0 q) (row.no number.Tag)) p) (Counted 1 (Known allow))
+  position-reads allow p =
+      sized-reads 1 p _ (λ k. guard-reads (allow .known k) (row.bytes b 0 (p + 1)) number.Tag (λ e. e, λ e. e) (bytes-reads 0 (p + 1)))
+
 -- ---- the runs that the rows read are those of the table
 
 text-is : (l : List ℕ) → NumberText l ↔ (Utf8 l × Literal (take (trimmed l) l))
@@ -222,42 +231,53 @@ text-is l = (
   λ x. record { text = x .0; left = trimmed l; trimmed = trimmed-is l; literal = x .1 },
 )
 
-named : {tag k : ℕ} → ((n m : List ℕ) → Number k n (length m) → Utf8 m → Leaf tag (n ++ m)) → (l : List ℕ) → Counted k Named l → Leaf tag l
+named : {allow : Allowed} {tag k : ℕ} → ((n m : List ℕ) → Number k n (length m) → Utf8 m → Leaf allow tag (n ++ m)) → (l : List ℕ) → Counted k Named l → Leaf allow tag l
 named f _ (counted n l m w q) = f l m (rw (q .0) w) (q .1)
 
-big : {tag k : ℕ} → ((n : List ℕ) (sign : ℕ) (m : List ℕ) → Number k n (length m) → Leaf tag (n ++ (sign ∷ m))) → (l : List ℕ) → Counted k Digits l → Leaf tag l
+big : {allow : Allowed} {tag k : ℕ} → ((n : List ℕ) (sign : ℕ) (m : List ℕ) → Number k n (length m) → Leaf allow tag (n ++ (sign ∷ m))) → (l : List ℕ) → Counted k Digits l → Leaf allow tag l
 big f _ (counted n l _ w (joined c m v x)) = rw (single c v) (f l (be c) m (rw x w))
 
-string : (l : List ℕ) → Counted 2 (λ n m. length m ≡ n) l → Leaf 107 l
+string : {allow : Allowed} (l : List ℕ) → Counted 2 (λ n m. length m ≡ n) l → Leaf allow 107 l
 string _ (counted n l m w q) = layout.string l m (rw q w)
 
-binary : (l : List ℕ) → Counted 4 Short l → Leaf 109 l
+binary : {allow : Allowed} (l : List ℕ) → Counted 4 Short l → Leaf allow 109 l
 binary _ (counted n l m w q) = layout.binary l m (rw (q .1) w) (rw (q .1) (q .0))
 
-bits : (l : List ℕ) → Counted 4 Bits l → Leaf 77 l
+bits : {allow : Allowed} (l : List ℕ) → Counted 4 Bits l → Leaf allow 77 l
 bits _ (counted n l _ w (i, counted k c m v x)) =
     let e : c ≡ k ∷ [] = rw (v .is) at (single c (v .wide)) in
     rw e (layout.bit-string l k m (rw (x .1) w) (rw (x .1) i) (rw (x .1) (x .0)))
 
--- a test that passes, or the tests behind it
+position : {allow : Allowed} → allow .names ≡ true → (l : List ℕ) → Counted 1 (Known allow) l → Leaf allow 82 l
+position y _ (counted k c [] v x) = let e : c ≡ k ∷ [] = rw (v .is) at (single c (v .wide)) in rw e (layout.position y (x .0))
+position y _ (counted k c (z ∷ m) v x) = absurd (omega (arith, x .1))
+
+-- a test that passes, or what stands behind one that fails
+split : {A : Type 0} {e : ℕ} (x : Bool) {a o : Row} → (x ≡ true → a ≡ To e → A) → (x ≡ false → o ≡ To e → A) → cond x a o ≡ To e → A
+split true f g h = f refl h
+split false f g h = g refl h
+
 picked : {A : Type 0} {e : ℕ} (x : Bool) {a o : Row} → (x ≡ true → a ≡ To e → A) → (o ≡ To e → A) → cond x a o ≡ To e → A
-picked true f g h = f refl h
-picked false f g h = g h
+picked x f g = split x f (λ _. g)
 
 or-picked : {A : Type 0} {e : ℕ} (x y : Bool) {a o : Row} → (x ≡ true → a ≡ To e → A) → (y ≡ true → a ≡ To e → A) → (o ≡ To e → A) → cond (x || y) a o ≡ To e → A
 or-picked true y f g o h = f refl h
 or-picked false y f g o h = picked y g o h
 
 -- the tag is n, and the run that was read is a row of n's
-hit : {b : List ℕ} {p e : ℕ} {P : List ℕ → Type 0} (tag n : ℕ) → eqb tag n ≡ true → Run b p e P → ((l : List ℕ) → P l → Leaf n l) → Rowed b tag p e
+hit : {allow : Allowed} {b : List ℕ} {p e : ℕ} {P : List ℕ → Type 0} (tag n : ℕ) → eqb tag n ≡ true → Run b p e P → ((l : List ℕ) → P l → Leaf allow n l) → Rowed allow b tag p e
 hit tag n x r f = record { front = r .run; row = rw (eqb-true tag n x) (f (r .run) (r .holds)); stands = r .stands; ends = r .ends }
 
-pub leaf-sound : (b : List ℕ) (tag p e : ℕ) → p ≤ length b → rows.rowAt b tag p ≡ To e → Rowed b tag p e
-unfolding rows.rowAt
-leaf-sound b tag p e i =
+pub leaf-sound : (allow : Allowed) (b : List ℕ) (tag p e : ℕ) → p ≤ length b → rows.leafAt allow b tag p ≡ To e → Rowed allow b tag p e
+unfolding rows.leafAt rows.positionAt rows.rowAt
+leaf-sound allow b tag p e i =
+    picked (eqb tag 82) (λ x. picked (allow .names) (λ y h. hit tag 82 x (position-reads b allow p .sound h) (position y)) refused)
+    (split (eqb tag 99)
+    (λ x. picked (allow .texts) (λ t h. hit tag 99 x (text-reads b p .sound h) (λ l y. layout.number-text t (y .0 .0) (text-is l .1 (y .0 .1, y .1)))) refused)
+    (λ other.
     picked (eqb tag 97) (λ x h. hit tag 97 x (bytes-reads b 1 p .sound h) (λ l. layout.small-integer))
     (picked (eqb tag 98) (λ x h. hit tag 98 x (bytes-reads b 4 p .sound h) (λ l. layout.integer))
-    (picked (eqb tag 99) (λ x h. hit tag 99 x (text-reads b p .sound h) (λ l y. layout.number-text (y .0 .0) (text-is l .1 (y .0 .1, y .1))))
+    (picked (eqb tag 99) (λ x h. absurd (eqb-false tag 99 other (eqb-true tag 99 x)))
     (picked (eqb tag 70) (λ x h. hit tag 70 x (bytes-reads b 8 p .sound h) (λ l. layout.double))
     (or-picked (eqb tag 100) (eqb tag 118)
     (λ x h. hit tag 100 x (names-read b 2 p .sound h) (named layout.old-atom))
@@ -269,20 +289,21 @@ leaf-sound b tag p e i =
     (picked (eqb tag 77) (λ x h. hit tag 77 x (bits-read b p .sound h) bits)
     (picked (eqb tag 110) (λ x h. hit tag 110 x (big-reads b 1 p .sound h) (big layout.small-big))
     (picked (eqb tag 111) (λ x h. hit tag 111 x (big-reads b 4 p .sound h) (big layout.large-big))
-    refused)))))))))))
+    refused)))))))))))))
 
-pub leaf-complete : (b : List ℕ) (p : ℕ) {tag : ℕ} {l : List ℕ} → Leaf tag l → Stands b p l → rows.rowAt b tag p ≡ To (p + length l)
-unfolding rows.rowAt
-leaf-complete b p (layout.small-integer w) s = bytes-reads b 1 p .complete w s
-leaf-complete b p (layout.integer w) s = bytes-reads b 4 p .complete w s
-leaf-complete b p {l = l} (layout.number-text w t) s = let x = text-is l .0 t in text-reads b p .complete ((w, x .0), x .1) s
-leaf-complete b p (layout.double w) s = bytes-reads b 8 p .complete w s
-leaf-complete b p (layout.old-atom n m w u) s = names-read b 2 p .complete (counted _ n m w (refl, u)) s
-leaf-complete b p (layout.atom n m w u) s = names-read b 2 p .complete (counted _ n m w (refl, u)) s
-leaf-complete b p (layout.small-atom n m w u) s = names-read b 1 p .complete (counted _ n m w (refl, u)) s
-leaf-complete b p layout.nil s = ap To (omega arith)
-leaf-complete b p (layout.string n m w) s = string-reads b p .complete (counted _ n m w refl) s
-leaf-complete b p (layout.binary n m w c) s = binary-reads b p .complete (counted _ n m w (c, refl)) s
-leaf-complete b p (layout.bit-string n k m w c u) s = bits-read b p .complete (counted _ n (k ∷ m) w (c, counted k (k ∷ []) m (one k) (u, refl))) s
-leaf-complete b p (layout.small-big n x m w) s = big-reads b 1 p .complete (counted _ n (x ∷ m) w (joined (x ∷ []) m refl refl)) s
-leaf-complete b p (layout.large-big n x m w) s = big-reads b 4 p .complete (counted _ n (x ∷ m) w (joined (x ∷ []) m refl refl)) s
+pub leaf-complete : (allow : Allowed) (b : List ℕ) (p : ℕ) {tag : ℕ} {l : List ℕ} → Leaf allow tag l → Stands b p l → rows.leafAt allow b tag p ≡ To (p + length l)
+unfolding rows.leafAt rows.positionAt rows.rowAt
+leaf-complete allow b p (layout.small-integer w) s = bytes-reads b 1 p .complete w s
+leaf-complete allow b p (layout.integer w) s = bytes-reads b 4 p .complete w s
+leaf-complete allow b p {l = l} (layout.number-text y w t) s = let x = text-is l .0 t in rw y (text-reads b p .complete ((w, x .0), x .1) s)
+leaf-complete allow b p (layout.double w) s = bytes-reads b 8 p .complete w s
+leaf-complete allow b p (layout.old-atom n m w u) s = names-read b 2 p .complete (counted _ n m w (refl, u)) s
+leaf-complete allow b p (layout.atom n m w u) s = names-read b 2 p .complete (counted _ n m w (refl, u)) s
+leaf-complete allow b p (layout.small-atom n m w u) s = names-read b 1 p .complete (counted _ n m w (refl, u)) s
+leaf-complete allow b p layout.nil s = ap To (omega arith)
+leaf-complete allow b p (layout.string n m w) s = string-reads b p .complete (counted _ n m w refl) s
+leaf-complete allow b p (layout.binary n m w c) s = binary-reads b p .complete (counted _ n m w (c, refl)) s
+leaf-complete allow b p (layout.bit-string n k m w c u) s = bits-read b p .complete (counted _ n (k ∷ m) w (c, counted k (k ∷ []) m (one k) (u, refl))) s
+leaf-complete allow b p (layout.small-big n x m w) s = big-reads b 1 p .complete (counted _ n (x ∷ m) w (joined (x ∷ []) m refl refl)) s
+leaf-complete allow b p (layout.large-big n x m w) s = big-reads b 4 p .complete (counted _ n (x ∷ m) w (joined (x ∷ []) m refl refl)) s
+leaf-complete allow b p (layout.position {k = k} y h) s = rw y (position-reads b allow p .complete (counted k (k ∷ []) [] (one k) (h, refl)) s)

@@ -14,6 +14,7 @@ use Rattle.fields.specs.declared.Field.{Field}
 use Rattle.fields.specs.declared.Field.the-variants as field
 use Rattle.fields.proofs.Laws.{is-whole, number-of}
 use Rattle.numbers.specs.Caps as cap
+use Rattle.numbers.specs.Allowed.{Allowed}
 use Rattle.rows.specs.Row.{countAt}
 use Rattle.rows.specs.Row as row
 use Rattle.rows.specs.declared.Counted.{Counted as Capped}
@@ -38,18 +39,18 @@ use Rattle.layouts.proofs.Stands as stand
 use Rattle.accepts.proofs.Leaves.{leaf-sound}
 
 -- a term of b from s to t, as the layouts describe it, nested at most `rem` deep
-pub record Lies (b : List ℕ) (rem : ℕ) (s t : State) : Type 0 where
+pub record Lies (allow : Allowed) (b : List ℕ) (rem : ℕ) (s t : State) : Type 0 where
   pub tree : Tree
-  pub laid : Laid tree
+  pub laid : Laid allow tree
   pub shallow : depth tree ≤ rem
   pub stands : Stands b (s .at) (bytes tree)
   pub ends : t .at ≡ s .at + length (bytes tree)
   pub counted : t .begun ≡ s .begun + size tree
 
 -- n terms side by side
-record LiesAll (b : List ℕ) (rem n : ℕ) (s t : State) : Type 0 where
+record LiesAll (allow : Allowed) (b : List ℕ) (rem n : ℕ) (s t : State) : Type 0 where
   trees : Forest
-  laid : AllLaid trees
+  laid : AllLaid allow trees
   many : count trees ≡ n
   shallow : depths trees ≤ rem
   stands : Stands b (s .at) (bytesAll trees)
@@ -151,11 +152,12 @@ module _ (b : List ℕ) where
   unfolding bytes
   tagged p (node tag front kids back) s = stand.byte b p tag _ s
 
-  fits-atom : (p : ℕ) (x : Tree) → Laid x → Stands b p (bytes x) → isAtom b p ≡ true → IsAtom (tagOf x)
+  fits-atom : {allow : Allowed} (p : ℕ) (x : Tree) → Laid allow x → Stands b p (bytes x) → isAtom b p ≡ true → IsAtom (tagOf x)
   unfolding isAtom
   fits-atom p x l s =
       rw (tagged p x s) (either (eqb (tagOf x) 100) _ (λ e. rw (eqb-true (tagOf x) 100 e) lay.atom-100)
-      (either (eqb (tagOf x) 118) (eqb (tagOf x) 119) (λ e. rw (eqb-true (tagOf x) 118 e) lay.atom-118) (λ e. rw (eqb-true (tagOf x) 119 e) lay.atom-119)))
+      (either (eqb (tagOf x) 118) _ (λ e. rw (eqb-true (tagOf x) 118 e) lay.atom-118)
+      (either (eqb (tagOf x) 119) (eqb (tagOf x) 82) (λ e. rw (eqb-true (tagOf x) 119 e) lay.atom-119) (λ e. rw (eqb-true (tagOf x) 82 e) lay.atom-82))))
 
   module _ (most p : ℕ) where
     low : {k : ℕ} (l m : List ℕ) → Stands b p (l ++ m) → length l ≡ k → leb (numberAt k b p) most ≡ true → be l ≤ most
@@ -163,13 +165,13 @@ module _ (b : List ℕ) where
         let i = number-of k b p (stand.spells b p (stand.left b p l m s) (record { wide = e; is = refl })) in
         leb-true (be l) most (rw i at h)
 
-    one : {l m : List ℕ} {ts : Forest} → Laid (node 97 l ts m) → Stands b p (l ++ (bytesAll ts ++ m)) → leb (numberAt 1 b p) most ≡ true → IsNatural most (node 97 l ts m)
+    one : {allow : Allowed} {l m : List ℕ} {ts : Forest} → Laid allow (node 97 l ts m) → Stands b p (l ++ (bytesAll ts ++ m)) → leb (numberAt 1 b p) most ≡ true → IsNatural most (node 97 l ts m)
     one (lay.row (lay.small-integer e)) s h = lay.natural-97 (low _ _ s e h)
 
-    four : {l m : List ℕ} {ts : Forest} → Laid (node 98 l ts m) → Stands b p (l ++ (bytesAll ts ++ m)) → leb (numberAt 4 b p) most ≡ true → IsNatural most (node 98 l ts m)
+    four : {allow : Allowed} {l m : List ℕ} {ts : Forest} → Laid allow (node 98 l ts m) → Stands b p (l ++ (bytesAll ts ++ m)) → leb (numberAt 4 b p) most ≡ true → IsNatural most (node 98 l ts m)
     four (lay.row (lay.integer e)) s h = lay.natural-98 (low _ _ s e h)
 
-  fits-natural : (most p : ℕ) (x : Tree) → Laid x → Stands b p (bytes x) → isNatural most b p ≡ true → IsNatural most x
+  fits-natural : {allow : Allowed} (most p : ℕ) (x : Tree) → Laid allow x → Stands b p (bytes x) → isNatural most b p ≡ true → IsNatural most x
   unfolding isNatural bytes
   fits-natural most p (node tag l ts m) x s = rw (tagged p (node tag l ts m) s) (go (eqb tag 97) (eqb tag 98) refl refl)
     where
@@ -182,17 +184,17 @@ module _ (b : List ℕ) where
       go false true e f h = let i = eqb-true tag 98 f in rw i (four most (p + 1) (rw i at x) behind h)
       go false false e f h = absurd (let z : _≡_ {A = ℕ} 0 1 = cc in omega arith)
 
-  fits-pid : (p : ℕ) (x : Tree) → Laid x → Stands b p (bytes x) → isPid b p ≡ true → tagOf x ≡ 88
+  fits-pid : {allow : Allowed} (p : ℕ) (x : Tree) → Laid allow x → Stands b p (bytes x) → isPid b p ≡ true → tagOf x ≡ 88
   unfolding isPid
   fits-pid p x l s h = sym (tagged p x s) ∙ eqb-true _ _ h
 
   -- a term made of what was read: its tag, the bytes behind it, the children, and the bytes behind them
 
-  nobody : {rem : ℕ} (s : State) → s .at ≤ length b → LiesAll b rem 0 s s
+  nobody : {allow : Allowed} {rem : ℕ} (s : State) → s .at ≤ length b → LiesAll allow b rem 0 s s
   unfolding count bytesAll sizes depths
   nobody s h = record { trees = none; laid = lay.no-more; many = refl; shallow = omega arith; stands = stand.empty b (s .at) h; ends = omega arith; counted = omega arith }
 
-  with : {rem n : ℕ} {s u t : State} → Lies b rem s u → LiesAll b rem n u t → LiesAll b rem (suc n) s t
+  with : {allow : Allowed} {rem n : ℕ} {s u t : State} → Lies allow b rem s u → LiesAll allow b rem n u t → LiesAll allow b rem (suc n) s t
   unfolding count bytesAll sizes depths
   with {s = s} h k =
       let e = length-append (bytes (h .tree)) (bytesAll (k .trees)) in
@@ -206,20 +208,20 @@ module _ (b : List ℕ) where
         counted = omega arith;
       }
 
-  module _ (read : State → Result) (rem : ℕ) (reads : (s t : State) → read s ≡ done t → Lies b rem s t) where
+  module _ (allow : Allowed) (read : State → Result) (rem : ℕ) (reads : (s t : State) → read s ≡ done t → Lies allow b rem s t) where
     -- children, before those that were read behind them
 
-    entering : {m : ℕ} (k : Kind) (i : ℕ) {s u t : State} → entered k i (read s) ≡ done u → LiesAll b rem m u t → LiesAll b rem (suc m) s t
+    entering : {m : ℕ} (k : Kind) (i : ℕ) {s u t : State} → entered k i (read s) ≡ done u → LiesAll allow b rem m u t → LiesAll allow b rem (suc m) s t
     entering k i {s} {u} e h = with (reads s u (left k i (read s) e)) h
 
-    of-elems : {m : ℕ} (k : Kind) (i n : ℕ) {s u t : State} → LiesAll b rem m u t → elems read k i n s ≡ done u → LiesAll b rem (n + m) s t
+    of-elems : {m : ℕ} (k : Kind) (i n : ℕ) {s u t : State} → LiesAll allow b rem m u t → elems read k i n s ≡ done u → LiesAll allow b rem (n + m) s t
     unfolding elems
     of-elems {m} k i zero {s} {u} h e = let d : s ≡ u = cc in let j : zero + m ≡ m = omega arith in rw (d, j) h
     of-elems {m} k i (suc n) h e =
         let j : suc n + m ≡ suc (n + m) = omega arith in
         rw j (through _ _ (λ v d c. entering k i d (of-elems k (i + 1) n h c)) e)
 
-    of-pairs : (n : ℕ) {s t : State} → t .at ≤ length b → pairs read n s ≡ done t → LiesAll b rem (2 * n) s t
+    of-pairs : (n : ℕ) {s t : State} → t .at ≤ length b → pairs read n s ≡ done t → LiesAll allow b rem (2 * n) s t
     unfolding pairs pair
     of-pairs zero {s} {t} l e = let d : s ≡ t = cc in rw d (nobody t l)
     of-pairs (suc n) {s} l e =
@@ -228,17 +230,17 @@ module _ (b : List ℕ) where
 
     -- a required child, and what it is judged to be
     module _ {A : Type 0} (s : State) {t : State} where
-      child : {P : Tree → Type 0} (fits : ℕ → Bool) → ((x : Tree) → Laid x → Stands b (s .at) (bytes x) → fits (s .at) ≡ true → P x) →
-          ((x : Lies b rem s t) → P (x .tree) → A) → required read fits s ≡ done t → A
+      child : {P : Tree → Type 0} (fits : ℕ → Bool) → ((x : Tree) → Laid allow x → Stands b (s .at) (bytes x) → fits (s .at) ≡ true → P x) →
+          ((x : Lies allow b rem s t) → P (x .tree) → A) → required read fits s ≡ done t → A
       child fits h k = judged read fits s (λ d f. let x = reads s t d in k x (h (x .tree) (x .laid) (x .stands) f))
 
-      an-atom : ((x : Lies b rem s t) → IsAtom (tagOf (x .tree)) → A) → required read (isAtom b) s ≡ done t → A
+      an-atom : ((x : Lies allow b rem s t) → IsAtom (tagOf (x .tree)) → A) → required read (isAtom b) s ≡ done t → A
       an-atom = child (isAtom b) (fits-atom (s .at))
 
-      a-natural : (most : ℕ) → ((x : Lies b rem s t) → IsNatural most (x .tree) → A) → required read (isNatural most b) s ≡ done t → A
+      a-natural : (most : ℕ) → ((x : Lies allow b rem s t) → IsNatural most (x .tree) → A) → required read (isNatural most b) s ≡ done t → A
       a-natural most = child (isNatural most b) (fits-natural most (s .at))
 
-      a-pid : ((x : Lies b rem s t) → tagOf (x .tree) ≡ 88 → A) → required read (isPid b) s ≡ done t → A
+      a-pid : ((x : Lies allow b rem s t) → tagOf (x .tree) ≡ 88 → A) → required read (isPid b) s ≡ done t → A
       a-pid = child (isPid b) (fits-pid (s .at))
 
     -- a term from s to t, its tag read
@@ -247,7 +249,7 @@ module _ (b : List ℕ) where
       u = begin level s
 
       module _ {tag : ℕ} (e : getD b (s .at) 0 ≡ tag) where
-        made : {n : ℕ} {v w : State} {front back : List ℕ} → Gone b u v front → (k : LiesAll b rem n v w) → Gone b w t back → Laid (node tag front (k .trees) back) → Lies b (suc rem) s t
+        made : {n : ℕ} {v w : State} {front back : List ℕ} → Gone b u v front → (k : LiesAll allow b rem n v w) → Gone b w t back → Laid allow (node tag front (k .trees) back) → Lies allow b (suc rem) s t
         unfolding bytes size depth
         made {front = front} {back = back} g k h x =
             let m = length-append (bytesAll (k .trees)) back in
@@ -263,61 +265,61 @@ module _ (b : List ℕ) where
               counted = omega arith;
             }
 
-        of-leaf : fields (rows.rowAt b tag (u .at)) u ≡ done t → Lies b (suc rem) s t
+        of-leaf : fields (rows.leafAt allow b tag (u .at)) u ≡ done t → Lies allow b (suc rem) s t
         unfolding nobody
         of-leaf = fielded _ u (λ d c.
-            let x = leaf-sound b tag (u .at) (t .at) (omega arith) d in
+            let x = leaf-sound allow b tag (u .at) (t .at) (omega arith) d in
             made (record { stands = x .stands; ends = x .ends; counted = c }) (nobody t r) (stays t r) (lay.row (x .row)))
 
-        of-pid : ((x : Tree) (k : List ℕ) → Laid x → IsAtom (tagOf x) → length k ≡ 12 → Laid (node tag [] (more x none) k)) → pid read b u ≡ done t → Lies b (suc rem) s t
+        of-pid : ((x : Tree) (k : List ℕ) → Laid allow x → IsAtom (tagOf x) → length k ≡ 12 → Laid allow (node tag [] (more x none) k)) → pid read b u ≡ done t → Lies allow b (suc rem) s t
         unfolding pid with nobody
         of-pid h =
             through _ _ (λ v. an-atom u (λ x i d.
             let y = passed 12 v d in
             made (stays u (omega arith)) (with x (nobody v (omega (arith, y .gone .stands .inside)))) (y .gone) (h _ _ (x .laid) i (y .wide))))
 
-      of-small : getD b (s .at) 0 ≡ 104 → smallTuple read b u ≡ done t → Lies b (suc rem) s t
+      of-small : getD b (s .at) 0 ≡ 104 → smallTuple read b u ≡ done t → Lies allow b (suc rem) s t
       unfolding smallTuple
       of-small e =
           counts 1 _ u (λ n c d.
           let k = of-elems kind.Tuple 0 n (nobody t r) d in
           made e (c .gone) k (stays t r) (lay.small-tuple (record { wide = c .is .wide; is = omega (arith, c .is .is, k .many) }) (k .laid)))
 
-      of-large : getD b (s .at) 0 ≡ 105 → largeTuple read b u ≡ done t → Lies b (suc rem) s t
+      of-large : getD b (s .at) 0 ≡ 105 → largeTuple read b u ≡ done t → Lies allow b (suc rem) s t
       unfolding largeTuple
       of-large e =
           caps cap.elements _ u (λ n c h d.
           let k = of-elems kind.Tuple 0 n (nobody t r) d in
           made e (c .gone) k (stays t r) (lay.large-tuple (record { wide = c .is .wide; is = omega (arith, c .is .is, k .many) }) (omega (arith, k .many)) (k .laid)))
 
-      of-list : getD b (s .at) 0 ≡ 108 → list read b u ≡ done t → Lies b (suc rem) s t
+      of-list : getD b (s .at) 0 ≡ 108 → list read b u ≡ done t → Lies allow b (suc rem) s t
       unfolding list
       of-list e =
           caps cap.elements _ u (λ n c h. through _ _ (λ v d f.
           let k = of-elems kind.List 0 n (entering kind.Tail 0 f (nobody t r)) d in
           made e (c .gone) k (stays t r) (lay.list (c .is) h (k .many) (k .laid))))
 
-      of-map : getD b (s .at) 0 ≡ 116 → map read b u ≡ done t → Lies b (suc rem) s t
+      of-map : getD b (s .at) 0 ≡ 116 → map read b u ≡ done t → Lies allow b (suc rem) s t
       unfolding map
       of-map e =
           caps cap.pairs _ u (λ n c h d.
           let k = of-pairs n r d in
           made e (c .gone) k (stays t r) (lay.map (c .is) h (k .many) (k .laid)))
 
-      of-reference : getD b (s .at) 0 ≡ 90 → reference read b u ≡ done t → Lies b (suc rem) s t
+      of-reference : getD b (s .at) 0 ≡ 90 → reference read b u ≡ done t → Lies allow b (suc rem) s t
       unfolding reference with nobody
       of-reference e =
           counts 2 _ u (λ n c. through _ _ (λ v. an-atom _ (λ x i d.
           let y = passed (4 + 4 * n) v d in
           made e (c .gone) (with x (nobody v (omega (arith, y .gone .stands .inside)))) (y .gone) (lay.reference (c .is) (x .laid) i (y .wide)))))
 
-      of-export : getD b (s .at) 0 ≡ 113 → export read b u ≡ done t → Lies b (suc rem) s t
+      of-export : getD b (s .at) 0 ≡ 113 → export read b u ≡ done t → Lies allow b (suc rem) s t
       unfolding export with nobody
       of-export e =
           through _ _ (λ v. an-atom u (λ x i. through _ _ (λ w. an-atom v (λ y j. a-natural w 255 (λ z k.
           made e (stays u (omega arith)) (with x (with y (with z (nobody t r)))) (stays t r) (lay.export (x .laid) i (y .laid) j (z .laid) k))))))
 
-      of-function : getD b (s .at) 0 ≡ 112 → function read b u ≡ done t → Lies b (suc rem) s t
+      of-function : getD b (s .at) 0 ≡ 112 → function read b u ≡ done t → Lies allow b (suc rem) s t
       unfolding function captured with
       of-function e =
           through _ _ (λ a f. counts 4 _ a (λ n c.
@@ -331,7 +333,7 @@ module _ (b : List ℕ) where
           (lay.function (g .part) (c .part) (g .wide) (record { wide = c .is .wide; is = omega (arith, c .is .is, m .many) })
           (w .laid) h (x .laid) i (y .laid) j (z .laid) k (m .laid))))))))))))
 
-      of-body : body read b (getD b (s .at) 0) u ≡ done t → Lies b (suc rem) s t
+      of-body : body allow read b (getD b (s .at) 0) u ≡ done t → Lies allow b (suc rem) s t
       unfolding body
       of-body =
           let tag = getD b (s .at) 0 in
@@ -346,9 +348,9 @@ module _ (b : List ℕ) where
           (picked (eqb tag 112) _ _ (λ x. of-function (eqb-true _ _ x)) (of-leaf refl))))))))
 
 -- what is read to its end is a term
-pub sound : (b : List ℕ) (limit rem : ℕ) (s t : State) → term b limit rem s ≡ done t → Lies b rem s t
+pub sound : (allow : Allowed) (b : List ℕ) (limit rem : ℕ) (s t : State) → term allow b limit rem s ≡ done t → Lies allow b rem s t
 unfolding term
-sound b limit zero s t e = picked (ltb (s .at) (length b)) _ _ (λ h d. never d) (λ d. never d) e
-sound b limit (suc rem) s t e =
-    let (l, r) = ends b limit (suc rem) s t e in
-    picked (ltb (s .at) (length b)) _ _ (λ h. of-body b (term b limit rem) rem (sound b limit rem) (limit - rem) s t (omega arith) r) (λ d. never d) e
+sound allow b limit zero s t e = picked (ltb (s .at) (length b)) _ _ (λ h d. never d) (λ d. never d) e
+sound allow b limit (suc rem) s t e =
+    let (l, r) = ends allow b limit (suc rem) s t e in
+    picked (ltb (s .at) (length b)) _ _ (λ h. of-body b allow (term allow b limit rem) rem (sound allow b limit rem) (limit - rem) s t (omega arith) r) (λ d. never d) e

@@ -2,17 +2,20 @@
 -- atom child is no atom, and is a value everywhere else: by the tag, which the heads' definition and reading's both go by. Assumes nothing.
 use Prim.Native.Nat.{ℕ, zero, suc, _+_, _-_, _≤_, _<_, max}
 use native.Mathlib.Omega.{arith}
-use mathlib.Core.Path.{_≡_, refl, sym}
+use mathlib.Core.Path.{_≡_, refl, ap, sym, _∙_}
 use mathlib.Core.List.{List}
 use mathlib.Core.Bool.{Bool, true, false, cond}
 use borrow.Author.Tests.{ltb-true, ltb-false, lt-ltb, le-ltb}
 use lib.Dec.{eqb, ltb}
 use lib.ListN.{length, getD}
+use Rattle.numbers.specs.Allowed.{plain}
 use Rattle.numbers.specs.Caps as cap
 use Rattle.numbers.specs.Numbers as number
 use Rattle.numbers.proofs.Laws.{none-of, arm}
 use Rattle.reading.specs.declared.Cause.the-variants as cause
-use Rattle.reading.specs.Reading.{State, Result, reach, begin, refused}
+use Rattle.rows.specs.declared.Row.{Row}
+use Rattle.rows.proofs.Laws.{plain-leaf}
+use Rattle.reading.specs.Reading.{State, Result, reach, begin, refused, fields}
 use Rattle.reading.specs.Terms.{term, body}
 use Rattle.reading.specs.Answer.{answer, readAt}
 use Rattle.reading.proofs.Families as way
@@ -28,13 +31,13 @@ use Rattle.agree.proofs.Atoms as atom
 
 module _ (b : List ℕ) (at begun deepest limit left : ℕ) (here : at < length b) where
   abbrev child : State → Result
-  child = term b limit (suc left)
+  child = term plain b limit (suc left)
 
   abbrev start : State
   start = behindTag at begun deepest
 
   abbrev Tagged : ℕ → Type 0
-  Tagged tag = Agrees b at tag (body child b tag start) (head.term b tag at)
+  Tagged tag = Agrees b at tag (body plain child b tag start) (head.term b tag at)
 
   by-tag : (tag : ℕ) → Tagged tag
   unfolding body head.term hasAtom
@@ -48,7 +51,7 @@ module _ (b : List ℕ) (at begun deepest limit left : ℕ) (here : at < length 
       (arm Tagged tag 90 (atom.reference b at begun deepest limit left)
       (arm Tagged tag 113 (row.export b at begun deepest limit (suc left) here)
       (arm Tagged tag 112 (row.function b at begun deepest limit (suc left) here)
-      (λ n. by (search none-of) (search none-of) (row.leaf b at begun deepest (record { none = search none-of }) here)))))))))) (tt {0})
+      (λ n. by (way.body-rest plain child b tag start n ∙ ap (λ (r : Row). fields r start) (plain-leaf b tag (at + 1))) (search none-of) (row.leaf b at begun deepest (record { none = search none-of }) here)))))))))) (tt {0})
 
 -- at any place
 module _ (b : List ℕ) (at left : ℕ) where
@@ -59,7 +62,7 @@ module _ (b : List ℕ) (at left : ℕ) where
   root = record { at = at; last = 0; begun = 0; deepest = 0 }
 
   -- a term that is begun, and none
-  begun-is : at < length b → term b limit limit root ≡ body (term b limit (suc left)) b (getD b at 0) (begin (limit - suc left) root)
+  begun-is : at < length b → term plain b limit limit root ≡ body plain (term plain b limit (suc left)) b (getD b at 0) (begin (limit - suc left) root)
   unfolding term
   begun-is h = rw (lt-ltb at (length b) h)
 
@@ -78,15 +81,15 @@ module _ (b : List ℕ) (at left : ℕ) where
       go : (x y : Bool) → ltb cap.input (length b) ≡ x → ltb at (length b) ≡ y → saidByHead (headAt b at .value) ≡ asReading b at (readAt b at limit)
       go true y e f =
           let l = ltb-true cap.input (length b) e in
-          rw (read-no b at limit cause.Long (starts-long limit (length b) (λ z. omega arith) k l), head-long b at l, e)
+          rw (read-no plain b at limit cause.Long (starts-long limit (length b) (λ z. omega arith) k l), head-long b at l, e)
       go false true e f =
           let l = ltb-false cap.input (length b) e in
           let h = ltb-true at (length b) f in
-          rw (read-on b at limit _ (λ z. omega arith) k l (sym (begun-is h)), head-there b at l h, e) (by-tag b at (0 + 1) (max 0 (limit - suc left)) limit left h (getD b at 0) .agrees)
+          rw (read-on plain b at limit _ (λ z. omega arith) k l (sym (begun-is h)), head-there b at l h, e) (by-tag b at (0 + 1) (max 0 (limit - suc left)) limit left h (getD b at 0) .agrees)
       go false false e f =
           let l = ltb-false cap.input (length b) e in
           let h = ltb-false at (length b) f in
-          rw (read-on b at limit _ (λ z. omega arith) k l (sym (way.term-eof b limit limit root (reach root) h refl)), head-past b at l h, e) (nothing h)
+          rw (read-on plain b at limit _ (λ z. omega arith) k l (sym (way.term-eof plain b limit limit root (reach root) h refl)), head-past b at l h, e) (nothing h)
 
 -- with any limit within which an atom child lies
 pub heads-as-reading : (b : List ℕ) (at limit : ℕ) → 2 ≤ limit → limit ≤ cap.nesting → saidByHead (headAt b at .value) ≡ asReading b at (readAt b at limit)

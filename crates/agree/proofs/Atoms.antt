@@ -8,6 +8,7 @@ use mathlib.Core.Bool.{Bool, true, false, not, _||_}
 use borrow.Author.Tests.{ltb-true, ltb-false, lt-ltb, le-ltb, eq-eqb}
 use lib.Dec.{eqb, ltb}
 use lib.ListN.{length, getD}
+use Rattle.numbers.specs.Allowed.{plain}
 use Rattle.numbers.proofs.Laws.{listed-some}
 use Rattle.fields.specs.Field.{holds}
 use Rattle.fields.proofs.Laws.{there, is-there, is-gone}
@@ -89,7 +90,7 @@ module _ (b : List ℕ) (at : ℕ) where
 
   module _ (limit left : ℕ) where
     abbrev child : State → Result
-    child = term b limit (suc left)
+    child = term plain b limit (suc left)
 
     -- an atom child that is refused, and one that is read
     child-no : (t : State) (m : ℕ) {n x : ℕ} {u : State} {p : List Segment} → child t ≡ no n x u p → andThen (required child (isAtom b) t) (pass b m) ≡ no n x u p
@@ -122,7 +123,7 @@ module _ (b : List ℕ) (at : ℕ) where
           once = judged a true h i
 
           reads : child t ≡ fields (layout.rowAt b x (c + 1)) u
-          reads = way.term-body b limit (suc left) t u h (λ z. omega arith) refl ∙ one .body-is _ u
+          reads = way.term-body plain b limit (suc left) t u h (λ z. omega arith) refl ∙ one .body-is _ u
 
           is-leaf : head.node b c ≡ head.rowValue b x c
           is-leaf = node-is b c true h i
@@ -144,7 +145,7 @@ module _ (b : List ℕ) (at : ℕ) where
               by refl (named-no f (node-is b c false l i) ∙ rw (a .starts)) (tag-at-once (judged a false l i))
           go false z h i =
               let l = ltb-false c (length b) h in
-              by (child-no t m (way.term-eof b limit (suc left) t (reach t) l refl)) (named-no f (node-eof b c l)) (same (reach t) (missing a l) (own-atom a) (omega arith))
+              by (child-no t m (way.term-eof plain b limit (suc left) t (reach t) l refl)) (named-no f (node-eof b c l)) (same (reach t) (missing a l) (own-atom a) (omega arith))
 
   module _ (begun deepest limit left : ℕ) where
     abbrev start : State

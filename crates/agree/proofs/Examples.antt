@@ -7,7 +7,7 @@ use mathlib.Core.List.{List, [], _∷_}
 use Rattle.fields.specs.Be.{be, beAt}
 use Rattle.fields.specs.Field.{holds, fieldAt}
 use Rattle.numbers.specs.Numbers as number
-use Rattle.reading.specs.Answer.{answer, starts, readAt}
+use Rattle.reading.specs.Answer.{answer, starts, readBy}
 use Rattle.reading.proofs.Examples.{behind}
 use Rattle.heads.specs.Inner.Head.{no}
 use Rattle.heads.specs.declared.Value.{Value}
@@ -22,7 +22,7 @@ Wrong b v = ¬ (v ≡ headOf b 1 .value)
 
 -- 131 88 119 0: the pid's id is missing. A head that answers Eof at the pid's own start
 pub at-the-pid : Wrong (131 ∷ 88 ∷ 119 ∷ 0 ∷ []) (no number.Eof 1)
-unfolding headOf headThen atOnce ownOffset hasAtom atomAt readAt answer starts behind
+unfolding headOf headThen atOnce ownOffset hasAtom atomAt readBy answer starts behind
 at-the-pid e =
     let f : no number.Eof 1 ≡ no number.Eof 2 = e in
     let z : _≡_ {A = ℕ} 1 2 = cc in
@@ -30,7 +30,7 @@ at-the-pid e =
 
 -- 131 105 0 152 150 129: 10,000,001 elements. A head that answers a value
 pub over-the-cap : Wrong (131 ∷ 105 ∷ 0 ∷ 152 ∷ 150 ∷ 129 ∷ []) (value.Tuple 10000001)
-unfolding headOf headThen atOnce ownOffset hasAtom atomAt readAt answer starts behind
+unfolding headOf headThen atOnce ownOffset hasAtom atomAt readBy answer starts behind
 over-the-cap e =
     let f : value.Tuple 10000001 ≡ no number.Size 1 = e in
     let z : _≡_ {A = ℕ} 0 1 = cc in
@@ -38,7 +38,7 @@ over-the-cap e =
 
 -- 131 88 104 1 106: the pid's child is a tuple. A head that reads it whole first, and answers Tag at the last term reached inside it
 pub whole-first : Wrong (131 ∷ 88 ∷ 104 ∷ 1 ∷ 106 ∷ []) (no number.Tag 4)
-unfolding headOf headThen atOnce ownOffset hasAtom atomAt readAt answer starts behind
+unfolding headOf headThen atOnce ownOffset hasAtom atomAt readBy answer starts behind
 whole-first e =
     let f : no number.Tag 4 ≡ no number.Tag 2 = e in
     let z : _≡_ {A = ℕ} 4 2 = cc in
@@ -46,7 +46,7 @@ whole-first e =
 
 -- 131 104 1 97: the tuple's element is cut off. A head that answers what reading is refused for inside a child
 pub inside-a-child : Wrong (131 ∷ 104 ∷ 1 ∷ 97 ∷ []) (no number.Eof 3)
-unfolding headOf headThen fieldsAt fieldAt holds be beAt atOnce ownOffset hasAtom atomAt readAt answer starts behind
+unfolding headOf headThen fieldsAt fieldAt holds be beAt atOnce ownOffset hasAtom atomAt readBy answer starts behind
 inside-a-child e =
     let f : no number.Eof 3 ≡ value.Tuple 1 = e in
     let z : _≡_ {A = ℕ} 0 1 = cc in

@@ -5,6 +5,7 @@ use native.Mathlib.Omega.{arith}
 use mathlib.Core.List.{List}
 use mathlib.Core.Bool.{Bool, true, false, cond}
 use lib.ListN.{length}
+use Rattle.numbers.specs.Allowed.{plain}
 use Rattle.numbers.proofs.Laws.{listed-some}
 use Rattle.numbers.specs.Numbers as number
 use Rattle.reading.specs.declared.Kind.{Kind}
@@ -63,13 +64,13 @@ module _ (b : List ℕ) (floor : ℕ) where
     begun : (s : State) → Above s → Reached (reach s)
     begun s h = record { place = record { above = h .above; inside = h .inside }; reached = h .above }
 
-    child : (left : ℕ) (s : State) → Above s → Held Reached Stops left (term b limit left s)
+    child : (left : ℕ) (s : State) → Above s → Held Reached Stops left (term plain b limit left s)
     unfolding term
-    child zero s h = keeps (floors limit) zero (reach s) (begun s h)
-    child (suc l) s h = keeps (floors limit) (suc l) (reach s) (begun s h)
+    child zero s h = keeps plain (floors limit) zero (reach s) (begun s h)
+    child (suc l) s h = keeps plain (floors limit) (suc l) (reach s) (begun s h)
 
     abbrev read : State → Result
-    read = term b limit left
+    read = term plain b limit left
 
     pub kept : (s : State) → Above s → Kept (read s)
     kept s h = go (read s) (child left s h)

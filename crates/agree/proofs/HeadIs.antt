@@ -8,6 +8,7 @@ use mathlib.Core.Bool.{Bool, true, false, cond, not, _&&_, _||_}
 use borrow.Author.Tests.{ltb-true, ltb-false, eqb-true}
 use lib.Dec.{eqb, ltb}
 use lib.ListN.{length, getD, take, drop, List·getD-eq-default}
+use Rattle.numbers.specs.Allowed.{plain}
 use Rattle.fields.specs.Field.{holds, fieldAt, numberAt}
 use Rattle.fields.specs.declared.Field.{Field}
 use Rattle.fields.specs.declared.Field.the-variants as field
@@ -49,16 +50,17 @@ record Fields (w v : Value) : Type 0 where
 
 -- the name of an atom
 module _ (b : List ℕ) where
-  name-is : (c : ℕ) → isAtom b c ≡ true → head.fixed b (getD b c 0) (c + 1) ≡ value.Atom (namePlace (getD b c 0) c) (nameLength b (getD b c 0) c)
-  unfolding isAtom head.fixed namePlace nameLength lengthBytes
-  name-is c = go (getD b c 0) (eqb (getD b c 0) 100) (eqb (getD b c 0) 118) (eqb (getD b c 0) 119) refl refl refl
+  name-is : (c : ℕ) {d : ℕ} → isAtom b c ≡ true → layout.rowAt b (getD b c 0) (c + 1) ≡ To d → head.fixed b (getD b c 0) (c + 1) ≡ value.Atom (namePlace (getD b c 0) c) (nameLength b (getD b c 0) c)
+  unfolding isAtom layout.rowAt head.fixed namePlace nameLength lengthBytes
+  name-is c {d} = go (getD b c 0) (eqb (getD b c 0) 100) (eqb (getD b c 0) 118) (eqb (getD b c 0) 119) (eqb (getD b c 0) 82) refl refl refl refl
     where
-      go : (tag : ℕ) (x y z : Bool) → eqb tag 100 ≡ x → eqb tag 118 ≡ y → eqb tag 119 ≡ z → x || (y || z) ≡ true →
+      go : (tag : ℕ) (x y z w : Bool) → eqb tag 100 ≡ x → eqb tag 118 ≡ y → eqb tag 119 ≡ z → eqb tag 82 ≡ w → x || (y || (z || w)) ≡ true → layout.rowAt b tag (c + 1) ≡ To d →
           head.fixed b tag (c + 1) ≡ value.Atom (c + 1 + cond (eqb tag 119) 1 2) (numberAt (cond (eqb tag 119) 1 2) b (c + 1))
-      go tag true y z e f g h = rw (eqb-true tag 100 e)
-      go tag false true z e f g h = rw (eqb-true tag 118 f)
-      go tag false false true e f g h = rw (eqb-true tag 119 g)
-      go tag false false false e f g h = absurd (let z : _≡_ {A = ℕ} 0 1 = cc in omega arith)
+      go tag true y z w e f g i h k = rw (eqb-true tag 100 e)
+      go tag false true z w e f g i h k = rw (eqb-true tag 118 f)
+      go tag false false true w e f g i h k = rw (eqb-true tag 119 g)
+      go tag false false false true e f g i h k = let j : No number.Tag 0 ≡ To d = rw (eqb-true tag 82 i) at k in absurd (let z : _≡_ {A = ℕ} 0 1 = cc in omega arith)
+      go tag false false false false e f g i h k = absurd (let z : _≡_ {A = ℕ} 0 1 = cc in omega arith)
 
 module _ {w : Value} where
   by : {v u : Value} → v ≡ u → Fields w u → Fields w v
@@ -116,7 +118,7 @@ module _ {w : Value} where
             is-leaf = node-is b c true (ltb-true c (length b) e) i
 
             at-leaf : (r : Row) → layout.rowAt b x (c + 1) ≡ r → Fields w (head.named (head.node b c) f)
-            at-leaf (To d) k = by (named-atom f (is-leaf ∙ leaf-to b x c k ∙ name-is b c i)) h
+            at-leaf (To d) k = by (named-atom f (is-leaf ∙ leaf-to b x c k ∙ name-is b c i k)) h
             at-leaf (No n y) k = by (named-no f (is-leaf ∙ leaf-no b x c k)) (no n c y)
 
 -- every tag
@@ -303,7 +305,7 @@ module _ (b : List ℕ) (at : ℕ) where
         go : (x y : Bool) → ltb cap.input (length b) ≡ x → ltb at (length b) ≡ y → headAt b at ≡ headBy b at a
         go true y e f =
             let l = ltb-true cap.input (length b) e in
-            rw (read-no b at limit cause.Long (starts-long limit (length b) (λ z. omega arith) most l), head-long b at l, e)
+            rw (read-no plain b at limit cause.Long (starts-long limit (length b) (λ z. omega arith) most l), head-long b at l, e)
         go false true e f =
             let h = head-there b at (ltb-false cap.input (length b) e) (ltb-true at (length b) f) in
             h ∙ ap (headed tag) (value-is e h (by-tag b at tag)) ∙ rw e

@@ -8,13 +8,16 @@ use mathlib.Core.List.{List, [], _∷_, _++_}
 use mathlib.Core.Bool.{true}
 use lib.ListN.{length, getD, take, drop, length-append, length-drop}
 use lib.Seq.{take-length, drop-drop}
+use Rattle.numbers.specs.Allowed.{plain}
 use Rattle.fields.specs.Be.{be, beAt}
 use Rattle.fields.specs.Field.{fieldAt, numberAt}
 use Rattle.fields.proofs.Laws.{number-of}
 use Rattle.fields.specs.declared.Field.the-variants as field
 use Rattle.fields.proofs.Laws.{is-there, then-is}
 use Rattle.numbers.specs.Caps as cap
-use Rattle.rows.proofs.Laws.{count-in, counted-is}
+use Rattle.rows.specs.Layout.{rowAt}
+use Rattle.rows.specs.declared.Row.the-variants.{To}
+use Rattle.rows.proofs.Laws.{count-in, counted-is, plain-leaf}
 use Rattle.rows.proofs.Ends.{agree-part}
 use Rattle.reading.specs.Terms.{isAtom}
 use Rattle.heads.specs.Inner.Head as head
@@ -53,11 +56,11 @@ module _ (b : List ℕ) (p : ℕ) where
   length-in {k} {m} i n r w e s = number-of _ b p (spells b p (left b p n r s) w) ∙ simp (length-drop, length-append) (omega (arith, w .wide))
 
   -- the rows without children
-  fixed-is : {tag : ℕ} {l : List ℕ} → Leaf tag l → Stands b p l → head.fixed b tag p ≡ fieldsBy tag l none [] p
+  fixed-is : {tag : ℕ} {l : List ℕ} → Leaf plain tag l → Stands b p l → head.fixed b tag p ≡ fieldsBy tag l none [] p
   unfolding head.fixed head.numberText head.double head.big fieldsBy bigOf
   fixed-is (layout.small-integer w) s = rw (number-in b p s 1 0 p (omega arith) (omega arith))
   fixed-is (layout.integer w) s = rw (number-in b p s 4 0 p (omega arith) (omega arith))
-  fixed-is (layout.number-text w t) s = rw (ap (λ (k : ℕ). take k (drop p b)) (sym w) ∙ s .same)
+  fixed-is (layout.number-text y w t) s = rw (ap (λ (k : ℕ). take k (drop p b)) (sym w) ∙ s .same)
   fixed-is (layout.double w) s = rw (number-in b p s 8 0 p (omega arith) (omega arith))
   fixed-is (layout.old-atom n name w u) s = rw (length-in 0 n name w (omega arith) s)
   fixed-is (layout.atom n name w u) s = rw (length-in 0 n name w (omega arith) s)
@@ -68,13 +71,14 @@ module _ (b : List ℕ) (p : ℕ) where
   fixed-is (layout.bit-string n k r w c t) s = rw (length-in 1 n (k ∷ r) w (omega arith) s, number-in b p s 1 4 (p + 4) refl (simp length-append (omega (arith, w .wide))))
   fixed-is (layout.small-big n x r w) s = rw (length-in 1 n (x ∷ r) w (omega arith) s, number-in b p s 1 1 (p + 1) refl (simp length-append (omega (arith, w .wide))))
   fixed-is (layout.large-big n x r w) s = rw (length-in 1 n (x ∷ r) w (omega arith) s, number-in b p s 1 4 (p + 4) refl (simp length-append (omega (arith, w .wide))))
+  fixed-is (layout.position y h) s = absurd (let z : _≡_ {A = ℕ} 0 1 = cc in omega arith)
 
 -- their tags are no others'
-leaf-term : {tag : ℕ} {l : List ℕ} (b : List ℕ) (at : ℕ) → Leaf tag l → head.term b tag at ≡ head.rowValue b tag at
+leaf-term : {tag : ℕ} {l : List ℕ} (b : List ℕ) (at : ℕ) → Leaf plain tag l → head.term b tag at ≡ head.rowValue b tag at
 unfolding head.term
 leaf-term b at (layout.small-integer w) = refl
 leaf-term b at (layout.integer w) = refl
-leaf-term b at (layout.number-text w t) = refl
+leaf-term b at (layout.number-text y w t) = refl
 leaf-term b at (layout.double w) = refl
 leaf-term b at (layout.old-atom n name w u) = refl
 leaf-term b at (layout.atom n name w u) = refl
@@ -85,9 +89,14 @@ leaf-term b at (layout.binary n r w c) = refl
 leaf-term b at (layout.bit-string n k r w c t) = refl
 leaf-term b at (layout.small-big n x r w) = refl
 leaf-term b at (layout.large-big n x r w) = refl
+leaf-term b at (layout.position y h) = refl
 
-leaf-is : (b : List ℕ) (at : ℕ) {tag : ℕ} {l : List ℕ} → Leaf tag l → Stands b (at + 1) l → head.rowValue b tag at ≡ fieldsBy tag l none [] (at + 1)
-leaf-is b at {tag} q s = leaf-to b tag at (leaf-complete b (at + 1) q s) ∙ fixed-is b (at + 1) q s
+-- the row that heads ask
+row-complete : (b : List ℕ) (p : ℕ) {tag : ℕ} {l : List ℕ} → Leaf plain tag l → Stands b p l → rowAt b tag p ≡ To (p + length l)
+row-complete b p {tag} q s = sym (plain-leaf b tag p) ∙ leaf-complete plain b p q s
+
+leaf-is : (b : List ℕ) (at : ℕ) {tag : ℕ} {l : List ℕ} → Leaf plain tag l → Stands b (at + 1) l → head.rowValue b tag at ≡ fieldsBy tag l none [] (at + 1)
+leaf-is b at {tag} q s = leaf-to b tag at (row-complete b (at + 1) q s) ∙ fixed-is b (at + 1) q s
 
 -- ---- the atom of a pid, a reference and a port
 
@@ -102,21 +111,23 @@ module _ (b : List ℕ) where
   is-atom c layout.atom-100 e = rw e
   is-atom c layout.atom-118 e = rw e
   is-atom c layout.atom-119 e = rw e
+  is-atom c layout.atom-82 e = rw e
 
-  name-is : (c : ℕ) {tag : ℕ} (l : List ℕ) → IsAtom tag → fieldsBy tag l none [] (c + 1) ≡ value.Atom (namePlace (leaf tag l) c) (nameLength (leaf tag l))
+  name-is : (c : ℕ) {tag : ℕ} {l : List ℕ} → Leaf plain tag l → IsAtom tag → fieldsBy tag l none [] (c + 1) ≡ value.Atom (namePlace (leaf tag l) c) (nameLength (leaf tag l))
   unfolding fieldsBy namePlace nameLength lengthBytes
-  name-is c l layout.atom-100 = refl
-  name-is c l layout.atom-118 = refl
-  name-is c l layout.atom-119 = refl
+  name-is c q layout.atom-100 = refl
+  name-is c q layout.atom-118 = refl
+  name-is c q layout.atom-119 = refl
+  name-is c (layout.position y h) layout.atom-82 = absurd (let z : _≡_ {A = ℕ} 0 1 = cc in omega arith)
 
-  atom : (c : ℕ) {x : Tree} → Laid x → IsAtom (tagOf x) → Stands b c (bytes x) → Atom c x
+  atom : (c : ℕ) {x : Tree} → Laid plain x → IsAtom (tagOf x) → Stands b c (bytes x) → Atom c x
   unfolding bytes bytesAll
   atom c (layout.row {tag} {l} q) i s =
       let x = leaf tag l in
       let e = byte b c tag (l ++ ([] ++ [])) s in
       let t = left b (c + 1) l [] (behind b c tag (l ++ ([] ++ [])) s) in
-      let r = leaf-complete b (c + 1) q t in
-      let f : head.fixed b tag (c + 1) ≡ value.Atom (namePlace x c) (nameLength x) = fixed-is b (c + 1) q t ∙ name-is c l i in
+      let r = row-complete b (c + 1) q t in
+      let f : head.fixed b tag (c + 1) ≡ value.Atom (namePlace x c) (nameLength x) = fixed-is b (c + 1) q t ∙ name-is c q i in
       let n = (rw e at (atom-tag b c (is-atom c i e))) .name (c + 1) _ r in
       let g : n .place ≡ namePlace x c = cc (n .is, f) in
       let h : n .size ≡ nameLength x = cc (n .is, f) in
@@ -130,7 +141,7 @@ module _ (b : List ℕ) where
     atom : Atom c x
     stands : Stands b (namePlace x c + nameLength x) back
 
-  after : (c : ℕ) {x : Tree} {back : List ℕ} → Laid x → IsAtom (tagOf x) → Stands b c (bytesAll (more x none) ++ back) → Behind c x back
+  after : (c : ℕ) {x : Tree} {back : List ℕ} → Laid plain x → IsAtom (tagOf x) → Stands b c (bytesAll (more x none) ++ back) → Behind c x back
   unfolding bytesAll
   after c {x} {back} a i s =
       let t = atom c a i (left b c (bytes x) [] (left b c (bytes x ++ []) back s)) in
@@ -163,7 +174,7 @@ module _ (b : List ℕ) (at : ℕ) where
   counted : {n : ℕ} {l : List ℕ} (most : ℕ) (v : ℕ → Value) → Number 4 l n → n ≤ most → Stands b (at + 1) l → head.counted most b at (at + 1) v ≡ v n
   counted most v w c s = counted-is most b (at + 1) _ _ (count-in most b (at + 1) (spells b (at + 1) s w) c)
 
-  row-is : {tag : ℕ} {front : List ℕ} {kids : Forest} {back : List ℕ} → Laid (node tag front kids back) → Stands b (at + 1) (front ++ (bytesAll kids ++ back)) →
+  row-is : {tag : ℕ} {front : List ℕ} {kids : Forest} {back : List ℕ} → Laid plain (node tag front kids back) → Stands b (at + 1) (front ++ (bytesAll kids ++ back)) →
       head.term b tag at ≡ fieldsBy tag front kids back (at + 1)
   unfolding head.term head.smallTuple head.largeTuple head.list head.map head.pid head.reference head.port head.function fieldsBy atomOf count
   row-is (layout.row {l = l} q) s = leaf-term b at q ∙ leaf-is b at q (left b (at + 1) l _ s)
@@ -190,7 +201,7 @@ module _ (b : List ℕ) (at : ℕ) where
       sized-in b (at + 1) t 4 0 at (at + 1) _ (omega arith) (omega arith) ∙ sized-in b (at + 1) t 1 4 at (at + 1 + 4) _ refl (omega arith)
       ∙ sized-in b (at + 1) t 4 21 at (at + 1 + 21) _ refl (omega arith) ∙ then-is 4 b (at + 1 + 25) _ _ u ∙ rw d
 
-pub head-of-tree : (b : List ℕ) (at : ℕ) (t : Tree) → length b ≤ cap.input → Laid t → Stands b at (bytes t) → headAt b at ≡ record { tag = tagOf t; value = fieldsOf t at }
+pub head-of-tree : (b : List ℕ) (at : ℕ) (t : Tree) → length b ≤ cap.input → Laid plain t → Stands b at (bytes t) → headAt b at ≡ record { tag = tagOf t; value = fieldsOf t at }
 unfolding bytes fieldsOf
 head-of-tree b at (node tag front kids back) l a s =
     let r = front ++ (bytesAll kids ++ back) in

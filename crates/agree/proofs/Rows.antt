@@ -6,6 +6,7 @@ use mathlib.Core.Path.{_≡_, refl, _∙_}
 use mathlib.Core.List.{List}
 use mathlib.Core.Bool.{Bool}
 use lib.ListN.{length}
+use Rattle.numbers.specs.Allowed.{plain}
 use Rattle.numbers.proofs.Laws.{listed-some}
 use Rattle.fields.specs.Field.{fieldAt}
 use Rattle.fields.specs.declared.Field.{Field}
@@ -57,7 +58,7 @@ module _ (b : List ℕ) (at begun deepest : ℕ) where
 
   module _ (limit left : ℕ) (here : at < length b) where
     abbrev read : State → Result
-    read = term b limit left
+    read = term plain b limit left
 
     pub small-tuple : Agrees b at 104 (reading.smallTuple read b s) (head.smallTuple b at)
     unfolding reading.smallTuple head.smallTuple hasAtom

@@ -9,6 +9,7 @@ use lib.Dec.{eqb}
 use lib.IntN.{pos}
 use lib.ListN.{length, take, drop, length-append}
 use lib.Seq.{drop-at}
+use Rattle.numbers.specs.Allowed.{plain}
 use Rattle.numbers.specs.Caps as cap
 use Rattle.fields.specs.Be.{beAt, le}
 use Rattle.fields.proofs.Laws.{be-one}
@@ -38,25 +39,25 @@ module _ (b : List ℕ) (p : ℕ) where
 
 module _ (b : List ℕ) (at : ℕ) (few : length b ≤ cap.input) where
   -- the head of a tree that stands there
-  head : (t : Tree) → Laid t → Stands b at (bytes t) → headOf b at ≡ record { tag = tagOf t; value = fieldsOf t at }
+  head : (t : Tree) → Laid plain t → Stands b at (bytes t) → headOf b at ≡ record { tag = tagOf t; value = fieldsOf t at }
   head t a s = sym (head-is b at) ∙ head-of-tree b at t few a s
 
   -- of a tree that stands there, its head, and the value that the bytes spell which the head points to
-  pub small-big-of-head : {front back : List ℕ} {kids : Forest} → Laid (node 110 front kids back) → Stands b at (bytes (node 110 front kids back)) → (place size sign : ℕ) ×
+  pub small-big-of-head : {front back : List ℕ} {kids : Forest} → Laid plain (node 110 front kids back) → Stands b at (bytes (node 110 front kids back)) → (place size sign : ℕ) ×
       ((headOf b at ≡ record { tag = 110; value = value.Big place size sign (not (eqb sign 0)) }) × (bigInteger (node 110 front kids back) ≡ bySign sign (le (take size (drop place b)))))
   unfolding bytes bytesAll fieldsOf fieldsBy bigOf
   small-big-of-head (layout.row (layout.small-big n x r w)) s =
       let f = n ++ (x ∷ r) in
       (at + 1 + 1 + 1, length (drop 2 f), beAt 1 f 1, (head _ (layout.row (layout.small-big n x r w)) s, small-big-is n x r w ∙ big b (at + 1) n x r w (left b (at + 1) f [] (behind b at 110 (f ++ []) s))))
 
-  pub large-big-of-head : {front back : List ℕ} {kids : Forest} → Laid (node 111 front kids back) → Stands b at (bytes (node 111 front kids back)) → (place size sign : ℕ) ×
+  pub large-big-of-head : {front back : List ℕ} {kids : Forest} → Laid plain (node 111 front kids back) → Stands b at (bytes (node 111 front kids back)) → (place size sign : ℕ) ×
       ((headOf b at ≡ record { tag = 111; value = value.Big place size sign (not (eqb sign 0)) }) × (bigInteger (node 111 front kids back) ≡ bySign sign (le (take size (drop place b)))))
   unfolding bytes bytesAll fieldsOf fieldsBy bigOf
   large-big-of-head (layout.row (layout.large-big n x r w)) s =
       let f = n ++ (x ∷ r) in
       (at + 1 + 4 + 1, length (drop 5 f), beAt 1 f 4, (head _ (layout.row (layout.large-big n x r w)) s, large-big-is n x r w ∙ big b (at + 1) n x r w (left b (at + 1) f [] (behind b at 111 (f ++ []) s))))
 
-  pub string-of-head : {front back : List ℕ} {kids : Forest} → Laid (node 107 front kids back) → Stands b at (bytes (node 107 front kids back)) → (place size : ℕ) ×
+  pub string-of-head : {front back : List ℕ} {kids : Forest} → Laid plain (node 107 front kids back) → Stands b at (bytes (node 107 front kids back)) → (place size : ℕ) ×
       ((headOf b at ≡ record { tag = 107; value = value.String place size }) × (integers (node 107 front kids back) ≡ map pos (take size (drop place b))))
   unfolding bytes bytesAll fieldsOf fieldsBy
   string-of-head (layout.row (layout.string n r w)) s =

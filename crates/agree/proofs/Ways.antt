@@ -7,9 +7,10 @@ use mathlib.Core.Bool.{Bool, true, false, cond, _||_}
 use borrow.Author.Tests.{leb-true, leb-false, lt-ltb, le-ltb, eqb-true}
 use lib.Dec.{eqb, leb}
 use lib.ListN.{length, getD}
+use Rattle.numbers.specs.Allowed.{plain}
 use Rattle.numbers.specs.Caps as cap
 use Rattle.fields.specs.Be.{beAt}
-use Rattle.fields.specs.Field.{holds, fieldAt, numberAt}
+use Rattle.fields.specs.Field.{holds, fieldAt, numberAt, numberThen}
 use Rattle.fields.specs.declared.Field.{Field}
 use Rattle.fields.specs.declared.Field.the-variants as field
 use Rattle.fields.proofs.Laws.{is-there, is-gone, field-is, field-eof, is-whole, at-there, then-is, then-eof}
@@ -103,13 +104,15 @@ module _ (b : List ℕ) (c : ℕ) where
   node-eof h = rw (le-ltb c (length b) h)
 
   pub node-is : (t : Bool) → c < length b → isAtom b c ≡ t → head.node b c ≡ cond t (head.rowValue b (getD b c 0) c) (head.no number.Tag c)
-  unfolding head.node isAtom
-  node-is t h e = rw (lt-ltb c (length b) h) (go (eqb (getD b c 0) 100) (eqb (getD b c 0) 118) (eqb (getD b c 0) 119) e)
+  unfolding head.node head.rowValue layout.rowAt isAtom
+  node-is t h e = rw (lt-ltb c (length b) h) (go (eqb (getD b c 0) 100) (eqb (getD b c 0) 118) (eqb (getD b c 0) 119) (eqb (getD b c 0) 82) refl e)
     where
-      go : (x y z : Bool) → x || (y || z) ≡ t → cond (x || y || z) (head.rowValue b (getD b c 0) c) (head.no number.Tag c) ≡ cond t (head.rowValue b (getD b c 0) c) (head.no number.Tag c)
-      go true y z e = rw (← e)
-      go false true z e = rw (← e)
-      go false false z e = rw (← e)
+      go : (x y z w : Bool) → eqb (getD b c 0) 82 ≡ w → x || (y || (z || w)) ≡ t → cond (x || y || z) (head.rowValue b (getD b c 0) c) (head.no number.Tag c) ≡ cond t (head.rowValue b (getD b c 0) c) (head.no number.Tag c)
+      go true y z w d e = rw (← e)
+      go false true z w d e = rw (← e)
+      go false false true w d e = rw (← e)
+      go false false false true d e = rw (← e, eqb-true (getD b c 0) 82 d)
+      go false false false false d e = rw (← e)
 
 -- an atom's value: its name ends where its row ends
 pub record Name (v : Value) (e : ℕ) : Type 0 where
@@ -118,9 +121,9 @@ pub record Name (v : Value) (e : ℕ) : Type 0 where
   pub is : v ≡ value.Atom place size
   pub ends : place + size ≡ e
 
--- what is the same of the three tags of an atom
+-- what is the same of the tags of an atom, 82 among them, which plain reading and heads both refuse
 pub record AtomTag (b : List ℕ) (tag : ℕ) : Type 0 where
-  pub body-is : (read : State → Result) (s : State) → body read b tag s ≡ fields (layout.rowAt b tag (s .at)) s
+  pub body-is : (read : State → Result) (s : State) → body plain read b tag s ≡ fields (layout.rowAt b tag (s .at)) s
   pub name : (p e : ℕ) → layout.rowAt b tag p ≡ To e → Name (head.fixed b tag p) e
 
 name-is : (b : List ℕ) (k p e : ℕ) → row.sized k b (row.name b) p ≡ To e → Name (value.Atom (p + k) (numberAt k b p)) e
@@ -137,29 +140,34 @@ name-is b k p e h = go (fieldAt k b p) refl
 
 module _ (b : List ℕ) where
   tag-100 : AtomTag b 100
-  unfolding body layout.rowAt head.fixed
+  unfolding body layout.leafAt layout.rowAt head.fixed numberThen
   tag-100 = record { body-is = λ read s. refl; name = name-is b 2 }
 
   tag-118 : AtomTag b 118
-  unfolding body layout.rowAt head.fixed
+  unfolding body layout.leafAt layout.rowAt head.fixed numberThen
   tag-118 = record { body-is = λ read s. refl; name = name-is b 2 }
 
   tag-119 : AtomTag b 119
-  unfolding body layout.rowAt head.fixed
+  unfolding body layout.leafAt layout.rowAt head.fixed numberThen
   tag-119 = record { body-is = λ read s. refl; name = name-is b 1 }
+
+  tag-82 : AtomTag b 82
+  unfolding body layout.leafAt layout.positionAt layout.rowAt
+  tag-82 = record { body-is = λ read s. refl; name = λ p e h. absurd (let z : _≡_ {A = ℕ} 0 1 = cc in omega arith) }
 
   pub atom-tag : (c : ℕ) → isAtom b c ≡ true → AtomTag b (getD b c 0)
   unfolding isAtom
-  atom-tag c = go (eqb tag 100) (eqb tag 118) (eqb tag 119) refl refl refl
+  atom-tag c = go (eqb tag 100) (eqb tag 118) (eqb tag 119) (eqb tag 82) refl refl refl refl
     where
       tag : ℕ
       tag = getD b c 0
 
-      go : (x y z : Bool) → eqb tag 100 ≡ x → eqb tag 118 ≡ y → eqb tag 119 ≡ z → x || (y || z) ≡ true → AtomTag b tag
-      go true y z e f g h = rw (eqb-true tag 100 e) tag-100
-      go false true z e f g h = rw (eqb-true tag 118 f) tag-118
-      go false false true e f g h = rw (eqb-true tag 119 g) tag-119
-      go false false false e f g h = absurd (let z : _≡_ {A = ℕ} 0 1 = cc in omega arith)
+      go : (x y z w : Bool) → eqb tag 100 ≡ x → eqb tag 118 ≡ y → eqb tag 119 ≡ z → eqb tag 82 ≡ w → x || (y || (z || w)) ≡ true → AtomTag b tag
+      go true y z w e f g i h = rw (eqb-true tag 100 e) tag-100
+      go false true z w e f g i h = rw (eqb-true tag 118 f) tag-118
+      go false false true w e f g i h = rw (eqb-true tag 119 g) tag-119
+      go false false false true e f g i h = rw (eqb-true tag 82 i) tag-82
+      go false false false false e f g i h = absurd (let z : _≡_ {A = ℕ} 0 1 = cc in omega arith)
 
 -- a head at any place
 module _ (b : List ℕ) (at : ℕ) where

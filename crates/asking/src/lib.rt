@@ -25,10 +25,13 @@ pub enum Asked {
     Read,
     Head,
     Tape,
+    Message,
     Name,
     Number,
     Write,
     Get,
+    Position,
+    Atom,
     Names,
     Count,
     Clear,
@@ -48,10 +51,11 @@ pub struct Line {
     pub len: usize,
 }
 
-// What an answer is made over besides the line's own bytes: the names, the words of a tape, a row and lent bytes, or nothing.
+// What an answer is made over besides the line's own bytes: the names, the words of a tape, both, a row and lent bytes, or nothing.
 pub enum Over {
     Names,
     Cells,
+    Both,
     Row,
     Bytes,
 }
@@ -61,8 +65,15 @@ pub fn which(line: &[u8]) -> Over {
     let end = words::word_end(line, 0);
     let asked = first(line, end);
     match asked {
-        Asked::Header | Asked::Get | Asked::Names | Asked::Count | Asked::Clear => Over::Names,
+        Asked::Header
+        | Asked::Get
+        | Asked::Position
+        | Asked::Atom
+        | Asked::Names
+        | Asked::Count
+        | Asked::Clear => Over::Names,
         Asked::Term | Asked::Tape => Over::Cells,
+        Asked::Message => Over::Both,
         Asked::Write => Over::Row,
         _ => Over::Bytes,
     }
@@ -138,22 +149,25 @@ fn first(line: &[u8], end: usize) -> Asked
 // The first words of lines, by their letters in hex.
 fn what(word: &[u8]) -> Asked {
     match words::letters(word) {
-        0x1_7465726d => Asked::Term,
-        0x1_75746638 => Asked::Utf8,
-        0x1_6c69746572616c => Asked::Literal,
-        0x1_686561646572 => Asked::Header,
-        0x1_6669727374 => Asked::First,
-        0x1_6e657874 => Asked::Next,
-        0x1_72656164 => Asked::Read,
-        0x1_68656164 => Asked::Head,
-        0x1_74617065 => Asked::Tape,
-        0x1_6e616d65 => Asked::Name,
-        0x1_6e756d626572 => Asked::Number,
-        0x1_7772697465 => Asked::Write,
-        0x1_676574 => Asked::Get,
-        0x1_6e616d6573 => Asked::Names,
-        0x1_636f756e74 => Asked::Count,
-        0x1_636c656172 => Asked::Clear,
+        0x7465726d => Asked::Term,
+        0x75746638 => Asked::Utf8,
+        0x6c69746572616c => Asked::Literal,
+        0x686561646572 => Asked::Header,
+        0x6669727374 => Asked::First,
+        0x6e657874 => Asked::Next,
+        0x72656164 => Asked::Read,
+        0x68656164 => Asked::Head,
+        0x74617065 => Asked::Tape,
+        0x6d657373616765 => Asked::Message,
+        0x6e616d65 => Asked::Name,
+        0x6e756d626572 => Asked::Number,
+        0x7772697465 => Asked::Write,
+        0x676574 => Asked::Get,
+        0x706f736974696f6e => Asked::Position,
+        0x61746f6d => Asked::Atom,
+        0x6e616d6573 => Asked::Names,
+        0x636f756e74 => Asked::Count,
+        0x636c656172 => Asked::Clear,
         _ => Asked::Unknown,
     }
 }
@@ -177,26 +191,28 @@ fn behind(asked: Asked, line: &[u8], from: usize) -> Line
         Asked::Names | Asked::Count | Asked::Clear | Asked::Write | Asked::Unknown => {
             bare(Asked::Unknown)
         }
-        Asked::Get => slot(line, from),
-        Asked::Head => place(line, from),
-        Asked::Read | Asked::Tape | Asked::Name | Asked::Number => numbers(asked, line, from),
+        Asked::Get | Asked::Position => slot(asked, line, from),
+        Asked::Head | Asked::Atom => place(asked, line, from),
+        Asked::Read | Asked::Tape | Asked::Message | Asked::Name | Asked::Number => {
+            numbers(asked, line, from)
+        }
         _ => made(asked, 0, 0, 0, 0, from),
     }
 }
 
-// SLOT
-fn slot(line: &[u8], from: usize) -> Line
+// SLOT, or a position
+fn slot(asked: Asked, line: &[u8], from: usize) -> Line
     requires { ⌜ from ≤ length (now line) ⌝ }
     ensures { λ r. ⌜ (r .rest ≡ 0) × (r .len ≡ 0) ⌝ }
 {
     let Number::Is(n) = words::value(&line[from..]) else {
         return bare(Asked::Unknown);
     };
-    made(Asked::Get, n, 0, 0, 0, 0)
+    made(asked, n, 0, 0, 0, 0)
 }
 
 // AT
-fn place(line: &[u8], from: usize) -> Line
+fn place(asked: Asked, line: &[u8], from: usize) -> Line
     requires { ⌜ from ≤ length (now line) ⌝ }
     ensures { λ r. ⌜ (r .rest ≤ length (now (line .entry))) × (r .len ≡ 0) ⌝ }
 {
@@ -204,7 +220,7 @@ fn place(line: &[u8], from: usize) -> Line
     if at.next == 0 {
         return bare(Asked::Unknown);
     }
-    made(Asked::Head, at.value, 0, 0, 0, at.next)
+    made(asked, at.value, 0, 0, 0, at.next)
 }
 
 // LIMIT, and a place or the tape's words; a third number where there is one.

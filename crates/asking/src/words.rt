@@ -20,16 +20,20 @@ pub(crate) struct Taken {
     pub next: usize,
 }
 
-// The letters of a word as one number: digits to the base 256, behind a 1, so that no two words have the same. 0 where a word is too long
-// for that.
+// The letters of a word as one number: digits to the base 256, none of them 0, so that no two words have the same. 0 where a word has such a
+// letter, is too long for that or has none.
 pub(crate) fn letters(word: &[u8]) -> u64 {
-    let mut n = 1u64;
+    let mut n = 0u64;
     let mut i = 0;
     while i < word.len() {
-        if u64::MAX / 512 < n {
+        let letter = byte(word[i]);
+        if letter == 0 {
             return 0;
         }
-        n = n * 256 + byte(word[i]);
+        if u64::MAX / 256 < n {
+            return 0;
+        }
+        n = n * 256 + letter;
         i += 1;
     }
     n

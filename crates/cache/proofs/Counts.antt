@@ -9,13 +9,14 @@ use lib.Arith.{digits-div, digits-mod}
 use lib.Count.{ones}
 use lib.Dec.{eqb}
 use lib.ListN.{getD, replicate}
+use Rattle.numbers.specs.Bits as bits
 use Rattle.cache.specs.Names.{filled, countOf, filledSlots}
 use Rattle.cache.proofs.Below.{Below}
 use Rattle.cache.proofs.Words.{bit, bit-is, ones-more}
 
 -- the first n slots of word a
 word-slots : (w : List ℕ) (a n : ℕ) → n ≤ 64 → filledSlots w (a * 64 + n) ≡ filledSlots w (a * 64) + ones (getD w a 0 % 2 ^ n)
-unfolding filledSlots filled ones
+unfolding filledSlots filled bits.bit ones
 word-slots w a zero h =
     ap (filledSlots w) (add-zero (a * 64)) ∙ sym (ap (λ (x : ℕ). filledSlots w (a * 64) + ones x) (mod-one (getD w a 0)) ∙ add-zero (filledSlots w (a * 64)))
 word-slots w a (suc n) h =

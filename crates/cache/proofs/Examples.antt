@@ -6,12 +6,13 @@ use mathlib.Core.Bool.{true, false, false≢true}
 use mathlib.Core.List.{List, [], _∷_}
 use lib.ListN.{length, replicate}
 use borrow.Author.Tests.{eq-eqb}
+use Rattle.numbers.specs.Bits as bits
 use Rattle.cache.specs.declared.Cache.{Cache}
 use Rattle.cache.specs.Names.{storeBytes, filled, gotAt, partOf}
 
 -- a cache in which slot 255 is filled is no empty one
 pub last-slot-filled : {r : Cache} → filled (r .filled) 255 ≡ true → ¬ (r ≡ record { filled = replicate 4 0 })
-unfolding filled
+unfolding filled bits.bit
 last-slot-filled {r} h e =
     let f : filled (r .filled) 255 ≡ false = ap (λ (c : Cache). filled (c .filled) 255) e in
     false≢true (sym f ∙ h)
@@ -20,9 +21,9 @@ last-slot-filled {r} h e =
 -- is empty, whatever lies there
 module _ (rest : List ℕ) (h : length rest ≡ 65534) where
   pub name-part : partOf (1 ∷ 97 ∷ rest) (gotAt (1 ∷ 0 ∷ 0 ∷ 0 ∷ []) (1 ∷ 97 ∷ rest) 0) ≡ 97 ∷ []
-  unfolding gotAt filled
+  unfolding gotAt filled bits.bit
   name-part = rw (eq-eqb (length (1 ∷ 97 ∷ rest)) storeBytes (omega arith)) refl
 
   pub absent-part : partOf (1 ∷ 97 ∷ rest) (gotAt (0 ∷ 0 ∷ 0 ∷ 0 ∷ []) (1 ∷ 97 ∷ rest) 0) ≡ []
-  unfolding gotAt filled
+  unfolding gotAt filled bits.bit
   absent-part = rw (eq-eqb (length (1 ∷ 97 ∷ rest)) storeBytes (omega arith)) refl

@@ -2,6 +2,7 @@ pub mod Below
 pub mod Words
 pub mod Counts
 pub mod Marks
+pub mod Writes
 pub mod Stores
 pub mod Slots
 pub mod Views

@@ -12,6 +12,7 @@ use lib.Dec.{eqb}
 use lib.ListN.{length, getD, set, replicate, length-set}
 use lib.Pow.{pow-lt}
 use lib.Seq.{getD-set-same, getD-set-other}
+use Rattle.numbers.specs.Bits as bits
 use Rattle.cache.specs.Names.{filled, marked}
 use Rattle.cache.proofs.Below.{Below, set-below}
 use Rattle.cache.proofs.Words.{bit, or-bit}
@@ -38,7 +39,7 @@ bit-marked w a b k m h = go (eqb a b) refl
     go false e = ap (λ (x : ℕ). eqb (bit x m) 1) (getD-set-other w a b (bitOr (getD w a 0) (2 ^ k)) 0 (λ p. eqb-false a b e (sym p)))
 
 pub marked-filled : (w : List ℕ) (i j : ℕ) → length w ≡ 4 → i < 256 → filled (marked w i) j ≡ eqb i j || filled w j
-unfolding filled marked
+unfolding filled bits.bit marked
 marked-filled w i j h g = bit-marked w (i / 64) (j / 64) (i % 64) (j % 64) (omega arith) ∙ ap (λ (t : Bool). t || filled w j) (sym (slot-eqb i j))
 
 pub marked-length : (w : List ℕ) (i : ℕ) → length (marked w i) ≡ length w
@@ -58,5 +59,5 @@ no-word (suc n) zero = refl
 no-word (suc n) (suc k) = no-word n k
 
 pub empty-filled : (j : ℕ) → filled (replicate 4 0) j ≡ false
-unfolding filled
+unfolding filled bits.bit
 empty-filled j = ap (λ (x : ℕ). eqb (bit x (j % 64)) 1) (no-word 4 (j / 64)) ∙ ap (λ (x : ℕ). eqb (x % 2) 1) (zero-div (2 ^ (j % 64)))

@@ -8,6 +8,7 @@ use borrow.Author.Tests.{eqb-true, eq-eqb, ne-eqb}
 use lib.Dec.{eqb}
 use lib.ListN.{length, getD}
 use Rattle.numbers.specs.Numbers as number
+use Rattle.numbers.specs.Bits as bits
 use Rattle.cache.specs.Names.{slotBytes, storeBytes, filled, gotAt}
 use Rattle.cache.specs.declared.Got.{Got}
 use Rattle.cache.specs.declared.Got.the-variants as got
@@ -21,11 +22,11 @@ module _ (w s : List ℕ) (i : ℕ) where
 
   module _ (h : length s ≡ storeBytes) where
     pub got-absent : (bit (getD w (i / 64) 0) (i % 64) ≡ 1 → ⊥) → got.No number.Absent ≡ gotAt w s i
-    unfolding gotAt filled
+    unfolding gotAt filled bits.bit
     got-absent g = rw (eq-eqb (length s) storeBytes h, ne-eqb (bit (getD w (i / 64) 0) (i % 64)) 1 g)
 
     pub got-name : bit (getD w (i / 64) 0) (i % 64) ≡ 1 → got.Name (i * slotBytes + 1) (getD s (i * slotBytes) 0) ≡ gotAt w s i
-    unfolding gotAt filled
+    unfolding gotAt filled bits.bit
     got-name g = rw (eq-eqb (length s) storeBytes h, eq-eqb (bit (getD w (i / 64) 0) (i % 64)) 1 g)
 
 -- a name that is answered lies within the store

@@ -8,7 +8,7 @@ use borrow.Author.Tests.{eqb-true, eqb-false, eq-eqb}
 use lib.Dec.{eqb}
 use lib.ListN.{length, getD, replicate}
 use Rattle.numbers.specs.Numbers as number
-use Rattle.names.specs.Form.{Held, nothing, name}
+use Rattle.names.specs.Form.{Held, nothing, name, isName}
 use Rattle.names.specs.Inner.Map.{updated}
 use Rattle.cache.specs.Names.{slotBytes, storeBytes, filled, marked, stored, nameIn, view, gotAt, partOf}
 use Rattle.cache.specs.declared.Got.{Got}
@@ -36,6 +36,15 @@ pub put-part : (w s : List ℕ) (i : ℕ) (n : List ℕ) → length w ≡ 4 → 
 unfolding gotAt nameIn
 put-part w s i n hw hs hi hn =
     rw (eq-eqb (length (stored s i n)) storeBytes (stored-length s i n ∙ hs), marked-filled w i i hw hi, eq-eqb i i refl) (stored-same s i n hs hi hn)
+
+-- it holds one just where it is filled, whatever lies in the store
+pub view-name : (w s : List ℕ) (i : ℕ) → isName (view w s i) ≡ filled w i
+unfolding view
+view-name w s i = go (filled w i)
+  where
+    go : (t : Bool) → isName (cond t (name (nameIn s i)) nothing) ≡ t
+    go true = refl
+    go false = refl
 
 pub empty-view : (s : List ℕ) (j : ℕ) → view (replicate 4 0) s j ≡ nothing
 unfolding view

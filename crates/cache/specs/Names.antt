@@ -8,6 +8,7 @@ use lib.Dec.{eqb, leb}
 use lib.ListN.{length, getD, set, take, drop}
 use lib.Seq.{sets}
 use Rattle.numbers.specs.Numbers as number
+use Rattle.numbers.specs.Bits.{bit}
 use Rattle.names.specs.Form.{Held, nothing, name, Put, done, no, Form}
 use Rattle.cache.specs.declared.Cache.{Cache}
 use Rattle.cache.specs.declared.Got.{Got}
@@ -22,7 +23,7 @@ storeBytes = 65536
 
 -- "Which slots are filled is kept in four 64-bit words, .. bit i mod 64 of word i div 64"
 unfoldable pub filled : List ℕ → ℕ → Bool
-filled words i = eqb (getD words (i / 64) 0 / 2 ^ (i % 64) % 2) 1
+filled words i = bit words i
 
 -- "the count of names is the ones in all four"
 unfoldable pub countOf : List ℕ → ℕ

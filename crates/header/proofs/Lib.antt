@@ -1,5 +1,6 @@
-pub mod Storing
 pub mod Leaving
 pub mod Maps
 pub mod Outcomes
+pub mod Accepted
+pub mod Local
 pub mod Examples

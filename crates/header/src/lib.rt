@@ -45,8 +45,9 @@ pub fn read(b: &[u8], c: Cache, store: &mut [u8]) -> HeaderRead
     }
 }
 
-// n references over the cache, of which the first stands at `first`; a length has two bytes where `long`, else one.
-fn names(b: &[u8], n: usize, long: bool, first: usize, c: Cache, store: &mut [u8]) -> HeaderRead
+// n references over the cache, of which the first stands at `first`; a length has two bytes where `long`, else one. For a caller that has read how the
+// header begins, by references::start.
+pub fn names(b: &[u8], n: usize, long: bool, first: usize, c: Cache, store: &mut [u8]) -> HeaderRead
     requires { ⌜ (n < 256) × ((3 + (n + 1) / 2 ≤ length (now b)) × (length (now store) ≡ storeBytes)) ⌝ }
     ensures answer { λ r. ⌜ r ≡ answerOf (over slots (now (b .entry)) (references (now (b .entry)) (cond long 2 1) 0 n first) (record { cache = c; store = now (store .entry) })) ⌝ }
     ensures store { λ _. ⌜ now (store .exit) ≡ over slots (now (b .entry)) (references (now (b .entry)) (cond long 2 1) 0 n first) (record { cache = c; store = now (store .entry) }) .cache .store ⌝ }

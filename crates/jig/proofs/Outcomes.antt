@@ -14,6 +14,8 @@ use Rattle.agree.proofs.HeadIs.{head-is}
 use Rattle.cache.specs.Names.{gotAt}
 use Rattle.cache.specs.declared.Got.{Got}
 use Rattle.cache.specs.declared.Got.the-variants as got
+use Rattle.positions.specs.Positions.{positionIn, cellIn}
+use Rattle.positions.proofs.Outcomes.{position-shown, cell-shown}
 use Rattle.cache.proofs.Outcomes.{gotOutcome, got-shown}
 use Rattle.jig.specs.Shown.{Tells, nameWords}
 use Rattle.headwords.specs.Words.{valueWords, headWords}
@@ -52,6 +54,12 @@ got-told (got.No number) h = listed-shown number h
 
 pub head-told : (b : List ℕ) (at : ℕ) → FirstShown (headWords (headOf b at))
 head-told b at = subst (λ (h : Headed). FirstShown (headWords h)) (head-is b at) (value-told (headAt b at .tag) (headAt b at .value) (head-shown b at))
+
+pub position-told : (words store run : List ℕ) (k : ℕ) → FirstShown (nameWords (positionIn words store run k))
+position-told words store run k = got-told (positionIn words store run k) (position-shown words store run k)
+
+pub atom-told : (b words store run : List ℕ) (at : ℕ) → FirstShown (nameWords (cellIn b words store run at))
+atom-told b words store run at = got-told (cellIn b words store run at) (cell-shown words store run b at)
 
 pub name-told : (words store : List ℕ) (i : ℕ) → FirstShown (nameWords (gotAt words store i))
 name-told words store i = got-told (gotAt words store i) (got-shown words store i)

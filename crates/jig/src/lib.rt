@@ -13,12 +13,14 @@ ghost use lib.Seq.{sets};
 ghost use Rattle.numbers.specs.Caps as cap;
 ghost use Rattle.utf8.specs.Inner.Find.{goodBytes};
 ghost use Rattle.reading.specs.Answer.{readAt};
-ghost use Rattle.tape.specs.Read.{Promised};
+ghost use Rattle.tape.specs.Read.{Promised, Recorded};
 ghost use Rattle.agree.specs.Head.{headOf, runAt};
 ghost use Rattle.lookup.specs.Lookup.{Looked};
 ghost use Rattle.lookup.specs.Lookup as key;
-ghost use Rattle.cache.specs.Names.{countOf, gotAt};
+ghost use Rattle.cache.specs.Names.{countOf, gotAt, slots};
 ghost use Rattle.header.specs.Header.{headerOver, answerOf};
+ghost use Rattle.positions.specs.Positions.{positionIn, cellIn};
+ghost use Rattle.message.specs.Message.{messageOver, messageBefore, notedBy};
 ghost use Rattle.fragments.specs.Fragment.{firstAt, nextAt};
 ghost use Rattle.measure.specs.Item.{itemsOf};
 ghost use Rattle.writer.specs.Write.{writeOver};
@@ -36,7 +38,7 @@ pub extern "C" fn sill_read(
     told: &mut [u64; 7],
     path: &mut [u64; 128],
 )
-    ensures { λ _. ⌜ Tells (λ r. Promised (now (b .entry)) limit r (now (tape .entry)) (now (tape .exit))) (now (told .exit)) (now (path .entry)) (now (path .exit)) ⌝ }
+    ensures { λ _. ⌜ Tells (λ r. Recorded (now (b .entry)) limit r (now (tape .entry)) (now (tape .exit))) (now (told .exit)) (now (path .entry)) (now (path .exit)) ⌝ }
 {
     let a = tape::read(b, limit, tape);
     answer(a, told, path);
@@ -53,7 +55,7 @@ pub extern "C" fn sill_term(
 )
     ensures { λ _. ⌜ Tells (λ r. r ≡ readAt (now (b .entry)) at limit) (now (told .exit)) (now (path .entry)) (now (path .exit)) ⌝ }
 {
-    let a = terms::read(b, at, limit);
+    let a = terms::read(b, at, reading::plainly(limit));
     answer(a, told, path);
 }
 
@@ -156,6 +158,66 @@ pub extern "C" fn sill_header(
     let marked = c.filled;
     *filled = marked;
     *told = [h.number, h.rest as u64, h.extra];
+}
+
+// Reads an atom header and one term behind it, and writes the term's tape, as message::read does. Told as by sill_read; the names completed are in
+// the cache, refused or not, and the positions of a header that was read to its end are in `run`.
+#[no_mangle]
+pub extern "C" fn sill_message(
+    b: &[u8],
+    limit: usize,
+    filled: &mut [u64; 4],
+    store: &mut [u8],
+    run: &mut [u8; 256],
+    tape: &mut [u32],
+    told: &mut [u64; 7],
+    path: &mut [u64; 128],
+)
+    ensures tells { λ _. ⌜ Tells (λ r. Promised (messageBefore slots (now (b .entry)) (messageOver (now (b .entry)) limit (record { filled = now (filled .entry) }) (now (store .entry)))) (now (b .entry)) limit r (now (tape .entry)) (now (tape .exit))) (now (told .exit)) (now (path .entry)) (now (path .exit)) ⌝ }
+    ensures marks { λ _. ⌜ now (filled .exit) ≡ messageOver (now (b .entry)) limit (record { filled = now (filled .entry) }) (now (store .entry)) .cache .cache .filled ⌝ }
+    ensures stores { λ _. ⌜ now (store .exit) ≡ messageOver (now (b .entry)) limit (record { filled = now (filled .entry) }) (now (store .entry)) .cache .store ⌝ }
+    ensures notes { λ _. ⌜ now (run .exit) ≡ notedBy (now (b .entry)) (messageOver (now (b .entry)) limit (record { filled = now (filled .entry) }) (now (store .entry))) (now (run .entry)) ⌝ }
+{
+    let words = *filled;
+    let m = message::read(b, limit, Cache { filled: words }, store, run, tape);
+    let c = m.cache;
+    let left = c.filled;
+    *filled = left;
+    let a = m.answer;
+    answer(a, told, path);
+}
+
+// The name at a position of the last header that sill_message read to its end, as positions::get says. Told as by sill_get.
+#[no_mangle]
+pub extern "C" fn sill_position(
+    filled: &[u64; 4],
+    store: &[u8],
+    run: &[u8; 256],
+    position: u8,
+    told: &mut [u64; 3],
+)
+    ensures { λ _. ⌜ now (told .exit) ≡ nameWords (positionIn (now (filled .entry)) (now (store .entry)) (now (run .entry)) position) ⌝ }
+{
+    let words = *filled;
+    let g = positions::get(Cache { filled: words }, store, run, position);
+    *told = name(g);
+}
+
+// The same for the atom of tag 82 at a place, as a cell of tag 82 has it, as positions::get_at says.
+#[no_mangle]
+pub extern "C" fn sill_atom(
+    b: &[u8],
+    at: usize,
+    filled: &[u64; 4],
+    store: &[u8],
+    run: &[u8; 256],
+    told: &mut [u64; 3],
+)
+    ensures { λ _. ⌜ now (told .exit) ≡ nameWords (cellIn (now (b .entry)) (now (filled .entry)) (now (store .entry)) (now (run .entry)) at) ⌝ }
+{
+    let words = *filled;
+    let g = positions::get_at(b, at, Cache { filled: words }, store, run);
+    *told = name(g);
 }
 
 // Reads a first fragment's header, as fragments::first does. Told are number, where the rest begins, extra, sequence, fragment and count.

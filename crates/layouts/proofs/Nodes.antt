@@ -7,6 +7,7 @@ use mathlib.Core.Logic.{⊎-elim}
 use mathlib.Core.Option.{some}
 use mathlib.Core.List.{List, [], _∷_, _++_, List·Memᴰ, List·Memᴰ·head, List·Memᴰ·tail, List·Memᴰ·append-cases}
 use lib.ListN.{length, getElem?, length-append}
+use Rattle.numbers.specs.Allowed.{Allowed}
 use Rattle.layouts.specs.Tree.{Tree, Forest, node, none, more, bytes, bytesAll, size, sizes, Stands}
 use Rattle.layouts.specs.Layout.{Laid, AllLaid, one-more}
 use Rattle.layouts.specs.Nodes.{Node, Lies, nodes, nodesAll}
@@ -32,17 +33,17 @@ is-in {n} (m ∷ row) zero e = let f : n ≡ m = cc in List·Memᴰ·head f
 is-in (m ∷ row) (suc i) e = List·Memᴰ·tail (is-in row i e)
 
 -- each term of a tree lies where the row says
-module _ (b : List ℕ) {n : Node} where
+module _ {allow : Allowed} (b : List ℕ) {n : Node} where
   mutual
     unfolding nodes bytes
 
-    pub lies : (t : Tree) (start parent first : ℕ) → Laid t → Stands b start (bytes t) → List·Memᴰ n (nodes t start parent first) → Lies b n
+    pub lies : (t : Tree) (start parent first : ℕ) → Laid allow t → Stands b start (bytes t) → List·Memᴰ n (nodes t start parent first) → Lies allow b n
     lies (node tag front ts back) start parent first l s (List·Memᴰ·head e) = rw e (record { laid = l; stands = s })
     lies (node tag front ts back) start parent first l s (List·Memᴰ·tail m) =
         let r = right b (start + 1) front (bytesAll ts ++ back) (behind b start tag (front ++ (bytesAll ts ++ back)) s) in
         lie ts (start + 1 + length front) first (first + 1) (kids-laid l) (left b (start + 1 + length front) (bytesAll ts) back r) m
 
-    lie : (ts : Forest) (start parent first : ℕ) → AllLaid ts → Stands b start (bytesAll ts) → List·Memᴰ n (nodesAll ts start parent first) → Lies b n
+    lie : (ts : Forest) (start parent first : ℕ) → AllLaid allow ts → Stands b start (bytesAll ts) → List·Memᴰ n (nodesAll ts start parent first) → Lies allow b n
     lie (more t ts) start parent first (one-more l ls) s m =
         ⊎-elim (λ k. lies t start parent first l (left b start (bytes t) (bytesAll ts) s) k)
         (λ k. lie ts (start + length (bytes t)) parent (first + size t) ls (right b start (bytes t) (bytesAll ts) s) k) (List·Memᴰ·append-cases (nodes t start parent first) m)

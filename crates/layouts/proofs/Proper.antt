@@ -4,6 +4,7 @@ use native.Mathlib.Omega.{arith}
 use mathlib.Core.Path.{_≡_, refl, ap, _∙_}
 use mathlib.Core.Logic.{_↔_}
 use mathlib.Core.List.{List, []}
+use Rattle.numbers.specs.Allowed.{Allowed}
 use Rattle.layouts.specs.Tree.{Tree, Forest, node, none, more, tagOf, count}
 use Rattle.layouts.specs.Layout as layout
 use Rattle.layouts.specs.Layout.{Laid, Tail, only, after, Proper, proper}
@@ -14,7 +15,7 @@ last-of x none = (x, only)
 last-of x (more y ts) = let (t, l) = last-of y ts in (t, after l)
 
 -- a laid list has a child at least, its tail
-pub has-tail : {n : List ℕ} (ts : Forest) → Laid (node 108 n ts []) → (t : Tree) × Tail ts t
+pub has-tail : {allow : Allowed} {n : List ℕ} (ts : Forest) → Laid allow (node 108 n ts []) → (t : Tree) × Tail ts t
 unfolding count
 has-tail none (layout.list w c e a) = absurd (omega arith)
 has-tail (more x ts) l = last-of x ts

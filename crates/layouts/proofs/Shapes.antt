@@ -8,6 +8,7 @@ use mathlib.Core.Bool.{Bool, true, false, cond, _&&_}
 use lib.Dec.{ltb, leb}
 use borrow.Author.Tests.{lt-ltb, le-ltb, le-leb, lt-leb}
 use Rattle.numbers.specs.Caps as cap
+use Rattle.numbers.specs.Allowed.{Allowed}
 use Rattle.numbers.proofs.Laws.{none-of, arm}
 use Rattle.fields.specs.Field.{numberAt}
 use Rattle.fields.proofs.Laws.{number-of}
@@ -57,7 +58,8 @@ module _ (b : List ℕ) (p : ℕ) where
       (arm Short t 106 (λ _. refl)
       (arm Short t 119 (λ _. refl)
       (arm Short t 109 (λ _. refl)
-      (λ n k. absurd (k (search none-of)))))))) (tt {0})
+      (arm Short t 82 (λ _. refl)
+      (λ n k. absurd (k (search none-of))))))))) (tt {0})
 
   pub short-is : ¬ (shortAt b p ≡ 0) → shapeAt b p ≡ ends (shortAt b p)
   unfolding shortAt shapeAt
@@ -78,11 +80,11 @@ module _ (b : List ℕ) (p : ℕ) where
       ap ends (simp length-append (omega (arith, w .wide)))
 
   -- a row without children, by what stands behind its tag
-  leaf-is : {tag : ℕ} {l : List ℕ} → Leaf tag l → Stands b (p + 1) l → shapeBy b p tag ≡ ends (p + 1 + length l)
+  leaf-is : {allow : Allowed} {tag : ℕ} {l : List ℕ} → Leaf allow tag l → Stands b (p + 1) l → shapeBy b p tag ≡ ends (p + 1 + length l)
   unfolding shapeBy
   leaf-is (layout.small-integer e) s = ap ends (omega arith)
   leaf-is (layout.integer e) s = ap ends (omega arith)
-  leaf-is (layout.number-text e t) s = ap ends (omega arith)
+  leaf-is (layout.number-text y e t) s = ap ends (omega arith)
   leaf-is (layout.double e) s = ap ends (omega arith)
   leaf-is (layout.old-atom n name w u) s = sized 0 n name w (omega arith) s
   leaf-is (layout.atom n name w u) s = sized 0 n name w (omega arith) s
@@ -93,13 +95,14 @@ module _ (b : List ℕ) (p : ℕ) where
   leaf-is (layout.bit-string n k r w c t) s = sized 1 n (k ∷ r) w (omega arith) s
   leaf-is (layout.small-big n sign r w) s = sized 1 n (sign ∷ r) w (omega arith) s
   leaf-is (layout.large-big n sign r w) s = sized 1 n (sign ∷ r) w (omega arith) s
+  leaf-is (layout.position y k) s = ap ends (omega arith)
 
   -- shapes are one by their numbers
   alike : {n n' m m' q q' : ℕ} → q ≡ q' → n ≡ n' → m ≡ m' → inner q n m ≡ inner q' n' m'
   alike e f g = rw (e, f, g)
 
   -- any row: a count stands first in its front, but for a function's, which stands last
-  row-is : {x : Tree} → Laid x → Stands b (p + 1) (frontOf x) → shapeBy b p (tagOf x) ≡ shapeOf x p
+  row-is : {allow : Allowed} {x : Tree} → Laid allow x → Stands b (p + 1) (frontOf x) → shapeBy b p (tagOf x) ≡ shapeOf x p
   unfolding shapeBy count
   row-is (layout.row l) s = leaf-is l s
   row-is (layout.small-tuple w a) s = alike (omega (arith, w .wide)) (told w s) refl
@@ -116,14 +119,14 @@ module _ (b : List ℕ) (p : ℕ) where
       alike (simp length-append (omega (arith, w .wide))) (omega arith) refl
 
 -- the bytes of a term tell its shape
-pub shape-is : (b : List ℕ) (p : ℕ) (x : Tree) → length b ≤ cap.input → Laid x → Stands b p (bytes x) → shapeAt b p ≡ shapeOf x p
+pub shape-is : {allow : Allowed} (b : List ℕ) (p : ℕ) (x : Tree) → length b ≤ cap.input → Laid allow x → Stands b p (bytes x) → shapeAt b p ≡ shapeOf x p
 unfolding bytes
 shape-is b p (node tag front kids back) l a s =
     let r = front ++ (bytesAll kids ++ back) in
     sym (by-tag b p tag (omega (arith, s .inside), l) (byte b p tag r s)) ∙ row-is b p a (left b (p + 1) front (bytesAll kids ++ back) (behind b p tag r s))
 
 -- a laid tree's children are laid
-pub kids-laid : {tag : ℕ} {front : List ℕ} {ts : Forest} {back : List ℕ} → Laid (node tag front ts back) → AllLaid ts
+pub kids-laid : {allow : Allowed} {tag : ℕ} {front : List ℕ} {ts : Forest} {back : List ℕ} → Laid allow (node tag front ts back) → AllLaid allow ts
 kids-laid (layout.row l) = layout.no-more
 kids-laid (layout.small-tuple w a) = a
 kids-laid (layout.large-tuple w c a) = a
@@ -142,11 +145,11 @@ pub record OneLeaf (ts : Forest) : Type 0 where
   pub is : ts ≡ more (leaf tag front) none
 
 -- an atom has no children
-atom-leaf : {x : Tree} → Laid x → IsAtom (tagOf x) → OneLeaf (more x none)
+atom-leaf : {allow : Allowed} {x : Tree} → Laid allow x → IsAtom (tagOf x) → OneLeaf (more x none)
 atom-leaf (layout.row {tag} {l} q) i = record { tag = tag; front = l; is = refl }
 
 -- bytes behind the children stand only behind one atom, which has no children
-pub one-leaf : {tag : ℕ} {front : List ℕ} {ts : Forest} {back : List ℕ} → Laid (node tag front ts back) → ¬ (back ≡ []) → OneLeaf ts
+pub one-leaf : {allow : Allowed} {tag : ℕ} {front : List ℕ} {ts : Forest} {back : List ℕ} → Laid allow (node tag front ts back) → ¬ (back ≡ []) → OneLeaf ts
 one-leaf (layout.row l) h = absurd (h refl)
 one-leaf (layout.small-tuple w a) h = absurd (h refl)
 one-leaf (layout.large-tuple w c a) h = absurd (h refl)
@@ -169,8 +172,8 @@ moved {b} {l = l} e s = subst (λ (k : ℕ). Stands b k l) e s
 mutual
   unfolding bytes count
 
-  -- trees that stand at one place are one
-  pub unique : (b : List ℕ) (p : ℕ) (x y : Tree) → length b ≤ cap.input → Laid x → Laid y → Stands b p (bytes x) → Stands b p (bytes y) → x ≡ y
+  -- trees that stand at one place are one, whatever is allowed in each
+  pub unique : {allow other : Allowed} (b : List ℕ) (p : ℕ) (x y : Tree) → length b ≤ cap.input → Laid allow x → Laid other y → Stands b p (bytes x) → Stands b p (bytes y) → x ≡ y
   unique b p (node tag front ts back) (node tag' front' ts' back') h a a' s s' =
       let e : shapeOf (node tag front ts back) p ≡ shapeOf (node tag' front' ts' back') p = sym (shape-is b p _ h a s) ∙ shape-is b p _ h a' s' in
       let t : tag ≡ tag' = sym (byte b p tag _ s) ∙ byte b p tag' _ s' in
@@ -185,7 +188,7 @@ mutual
       rw (t, f, k, z)
 
   -- side by side, and as many
-  unique-all : (b : List ℕ) (p : ℕ) (xs ys : Forest) → length b ≤ cap.input → AllLaid xs → AllLaid ys → count xs ≡ count ys → Stands b p (bytesAll xs) → Stands b p (bytesAll ys) → xs ≡ ys
+  unique-all : {allow other : Allowed} (b : List ℕ) (p : ℕ) (xs ys : Forest) → length b ≤ cap.input → AllLaid allow xs → AllLaid other ys → count xs ≡ count ys → Stands b p (bytesAll xs) → Stands b p (bytesAll ys) → xs ≡ ys
   unique-all b p none none h a a' e s s' = refl
   unique-all b p none (more y ys) h a a' e s s' = absurd (omega arith)
   unique-all b p (more x xs) none h a a' e s s' = absurd (omega arith)

@@ -1,5 +1,5 @@
--- Which trees are terms: document 01's table of term layouts, a case for each row, in its words. There is no reader here, no order of
--- reading and no place: a tree is a term by its bytes and its children alone.
+-- Which trees are terms: document 01's table of term layouts, a case for each row, in its words, and document 02's atom by its position. There
+-- is no reader here, no order of reading and no place: a tree is a term by its bytes, its children and what is allowed, `plain` in document 01.
 use Prim.Native.Nat.{ℕ, _+_, _*_, _≤_}
 use mathlib.Core.Path.{_≡_}
 use mathlib.Core.Bool.{true}
@@ -10,6 +10,7 @@ use Rattle.utf8.specs.Good.{Utf8}
 use Rattle.literal.specs.Trim.{Trimmed}
 use Rattle.literal.specs.Literal.{Literal}
 use Rattle.numbers.specs.Caps as cap
+use Rattle.numbers.specs.Allowed.{Allowed}
 use Rattle.layouts.specs.Tree.{Tree, Forest, node, none, more, leaf, tagOf, count}
 
 -- "Numbers are big-endian": the bytes l are the number n, in k bytes
@@ -24,11 +25,12 @@ pub record NumberText (l : List ℕ) : Type 0 where
   pub trimmed : Trimmed l left
   pub literal : Literal (take left l)
 
--- "An atom child has tag 100, 118 or 119"
+-- "An atom child has tag 100, 118 or 119"; 82, where it is a tag, "counts as an atom child" (document 02, P3)
 pub data IsAtom : ℕ → Type 0 where
   atom-100 : IsAtom 100
   atom-118 : IsAtom 118
   atom-119 : IsAtom 119
+  atom-82 : IsAtom 82
 
 -- "an integer child 97 or 98", from 0 to `most`: a negative one spells 2 ^ 31 or more, above every `most` (`signed-natural`, fields/proofs/Laws.antt)
 pub data IsNatural (most : ℕ) : Tree → Type 0 where
@@ -36,59 +38,61 @@ pub data IsNatural (most : ℕ) : Tree → Type 0 where
   natural-98 : {l : List ℕ} → be l ≤ most → IsNatural most (leaf 98 l)
 
 -- the rows without children: the tag, and the bytes after it
-pub data Leaf : ℕ → List ℕ → Type 0 where
+pub data Leaf (allow : Allowed) : ℕ → List ℕ → Type 0 where
   -- "97 / 98: 1 byte unsigned / 4 bytes two's complement"
-  small-integer : {l : List ℕ} → length l ≡ 1 → Leaf 97 l
-  integer : {l : List ℕ} → length l ≡ 4 → Leaf 98 l
+  small-integer : {l : List ℕ} → length l ≡ 1 → Leaf allow 97 l
+  integer : {l : List ℕ} → length l ≡ 4 → Leaf allow 98 l
   -- "99: 31 bytes of text"
-  number-text : {l : List ℕ} → length l ≡ 31 → NumberText l → Leaf 99 l
+  number-text : {l : List ℕ} → allow .texts ≡ true → length l ≡ 31 → NumberText l → Leaf allow 99 l
   -- "70: 8 bytes, a double's bits, kept exactly"
-  double : {l : List ℕ} → length l ≡ 8 → Leaf 70 l
+  double : {l : List ℕ} → length l ≡ 8 → Leaf allow 70 l
   -- "100, 118 / 119: length of 2 / 1 bytes, name in UTF-8"
-  old-atom : (n name : List ℕ) → Number 2 n (length name) → Utf8 name → Leaf 100 (n ++ name)
-  atom : (n name : List ℕ) → Number 2 n (length name) → Utf8 name → Leaf 118 (n ++ name)
-  small-atom : (n name : List ℕ) → Number 1 n (length name) → Utf8 name → Leaf 119 (n ++ name)
+  old-atom : (n name : List ℕ) → Number 2 n (length name) → Utf8 name → Leaf allow 100 (n ++ name)
+  atom : (n name : List ℕ) → Number 2 n (length name) → Utf8 name → Leaf allow 118 (n ++ name)
+  small-atom : (n name : List ℕ) → Number 1 n (length name) → Utf8 name → Leaf allow 119 (n ++ name)
   -- "106: nothing"
-  nil : Leaf 106 []
+  nil : Leaf allow 106 []
   -- "107: length of 2 bytes, bytes; a list of integers 0 to 255"
-  string : (n s : List ℕ) → Number 2 n (length s) → Leaf 107 (n ++ s)
+  string : (n s : List ℕ) → Number 2 n (length s) → Leaf allow 107 (n ++ s)
   -- "109: length of 4 bytes, bytes"
-  binary : (n s : List ℕ) → Number 4 n (length s) → length s ≤ cap.binary → Leaf 109 (n ++ s)
+  binary : (n s : List ℕ) → Number 4 n (length s) → length s ≤ cap.binary → Leaf allow 109 (n ++ s)
   -- "77: length of 4 bytes, bits byte, bytes"
-  bit-string : (n : List ℕ) (k : ℕ) (s : List ℕ) → Number 4 n (length s) → length s ≤ cap.binary → cap.bitsByte (length s) k ≡ true → Leaf 77 (n ++ (k ∷ s))
+  bit-string : (n : List ℕ) (k : ℕ) (s : List ℕ) → Number 4 n (length s) → length s ≤ cap.binary → cap.bitsByte (length s) k ≡ true → Leaf allow 77 (n ++ (k ∷ s))
   -- "110 / 111: n of 1 / 4 bytes, sign byte (nonzero is negative), n digit bytes, least first"
-  small-big : (n : List ℕ) (sign : ℕ) (s : List ℕ) → Number 1 n (length s) → Leaf 110 (n ++ (sign ∷ s))
-  large-big : (n : List ℕ) (sign : ℕ) (s : List ℕ) → Number 4 n (length s) → Leaf 111 (n ++ (sign ∷ s))
+  small-big : (n : List ℕ) (sign : ℕ) (s : List ℕ) → Number 1 n (length s) → Leaf allow 110 (n ++ (sign ∷ s))
+  large-big : (n : List ℕ) (sign : ℕ) (s : List ℕ) → Number 4 n (length s) → Leaf allow 111 (n ++ (sign ∷ s))
+  -- "tag 82 and one byte is also an atom .. the byte is a position in this header's list of references"
+  position : {k : ℕ} → allow .names ≡ true → allow .known k ≡ true → Leaf allow 82 (k ∷ [])
 
 mutual
   -- a term
-  pub data Laid : Tree → Type 0 where
-    row : {tag : ℕ} {l : List ℕ} → Leaf tag l → Laid (leaf tag l)
+  pub data Laid (allow : Allowed) : Tree → Type 0 where
+    row : {tag : ℕ} {l : List ℕ} → Leaf allow tag l → Laid allow (leaf tag l)
     -- "104 / 105: arity of 1 / 4 bytes, children"
-    small-tuple : {n : List ℕ} {ts : Forest} → Number 1 n (count ts) → AllLaid ts → Laid (node 104 n ts [])
-    large-tuple : {n : List ℕ} {ts : Forest} → Number 4 n (count ts) → count ts ≤ cap.elements → AllLaid ts → Laid (node 105 n ts [])
+    small-tuple : {n : List ℕ} {ts : Forest} → Number 1 n (count ts) → AllLaid allow ts → Laid allow (node 104 n ts [])
+    large-tuple : {n : List ℕ} {ts : Forest} → Number 4 n (count ts) → count ts ≤ cap.elements → AllLaid allow ts → Laid allow (node 105 n ts [])
     -- "108: length of 4 bytes, children, then a tail child"
-    list : {n : List ℕ} {m : ℕ} {ts : Forest} → Number 4 n m → m ≤ cap.elements → count ts ≡ m + 1 → AllLaid ts → Laid (node 108 n ts [])
+    list : {n : List ℕ} {m : ℕ} {ts : Forest} → Number 4 n m → m ≤ cap.elements → count ts ≡ m + 1 → AllLaid allow ts → Laid allow (node 108 n ts [])
     -- "116: arity of 4 bytes, key and value pairs"
-    map : {n : List ℕ} {m : ℕ} {ts : Forest} → Number 4 n m → m ≤ cap.pairs → count ts ≡ 2 * m → AllLaid ts → Laid (node 116 n ts [])
+    map : {n : List ℕ} {m : ℕ} {ts : Forest} → Number 4 n m → m ≤ cap.pairs → count ts ≡ 2 * m → AllLaid allow ts → Laid allow (node 116 n ts [])
     -- "88: atom child, id, serial, creation, 4 bytes each"
-    pid : {x : Tree} {k : List ℕ} → Laid x → IsAtom (tagOf x) → length k ≡ 12 → Laid (node 88 [] (more x none) k)
+    pid : {x : Tree} {k : List ℕ} → Laid allow x → IsAtom (tagOf x) → length k ≡ 12 → Laid allow (node 88 [] (more x none) k)
     -- "90: count of 2 bytes, atom child, creation 4, count ids of 4"
-    reference : {n : List ℕ} {m : ℕ} {x : Tree} {k : List ℕ} → Number 2 n m → Laid x → IsAtom (tagOf x) → length k ≡ 4 + 4 * m → Laid (node 90 n (more x none) k)
+    reference : {n : List ℕ} {m : ℕ} {x : Tree} {k : List ℕ} → Number 2 n m → Laid allow x → IsAtom (tagOf x) → length k ≡ 4 + 4 * m → Laid allow (node 90 n (more x none) k)
     -- "120: atom child, id 8, creation 4"
-    port : {x : Tree} {k : List ℕ} → Laid x → IsAtom (tagOf x) → length k ≡ 12 → Laid (node 120 [] (more x none) k)
+    port : {x : Tree} {k : List ℕ} → Laid allow x → IsAtom (tagOf x) → length k ≡ 12 → Laid allow (node 120 [] (more x none) k)
     -- "113: atom child, atom child, integer child 0 to 255"
-    export : {x y z : Tree} → Laid x → IsAtom (tagOf x) → Laid y → IsAtom (tagOf y) → Laid z → IsNatural 255 z → Laid (node 113 [] (more x (more y (more z none))) [])
+    export : {x y z : Tree} → Laid allow x → IsAtom (tagOf x) → Laid allow y → IsAtom (tagOf y) → Laid allow z → IsNatural 255 z → Laid allow (node 113 [] (more x (more y (more z none))) [])
     -- "112: size 4 (ignored), arity 1, 16 bytes, index 4, free count 4; atom child, two integer children of 0 or more, child with tag 88,
     -- then the free children"
     function : (f n : List ℕ) {x y z p : Tree} {ts : Forest} → length f ≡ 4 + 1 + 16 + 4 → Number 4 n (count ts) →
-        Laid x → IsAtom (tagOf x) → Laid y → IsNatural 2147483647 y → Laid z → IsNatural 2147483647 z → Laid p → tagOf p ≡ 88 → AllLaid ts →
-        Laid (node 112 (f ++ n) (more x (more y (more z (more p ts)))) [])
+        Laid allow x → IsAtom (tagOf x) → Laid allow y → IsNatural 2147483647 y → Laid allow z → IsNatural 2147483647 z → Laid allow p → tagOf p ≡ 88 → AllLaid allow ts →
+        Laid allow (node 112 (f ++ n) (more x (more y (more z (more p ts)))) [])
 
   -- terms side by side
-  pub data AllLaid : Forest → Type 0 where
-    no-more : AllLaid none
-    one-more : {t : Tree} {ts : Forest} → Laid t → AllLaid ts → AllLaid (more t ts)
+  pub data AllLaid (allow : Allowed) : Forest → Type 0 where
+    no-more : AllLaid allow none
+    one-more : {t : Tree} {ts : Forest} → Laid allow t → AllLaid allow ts → AllLaid allow (more t ts)
 
 -- the tail of a list, by its children: the last of them
 pub data Tail : Forest → Tree → Type 0 where

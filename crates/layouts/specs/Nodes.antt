@@ -4,6 +4,7 @@ use Prim.Native.Nat.{ℕ, _+_}
 use mathlib.Core.List.{List, [], _∷_, _++_}
 use lib.ListN.{length}
 use Rattle.layouts.specs.Tree.{Tree, Forest, Stands, node, none, more, bytes, size}
+use Rattle.numbers.specs.Allowed.{Allowed}
 use Rattle.layouts.specs.Layout.{Laid}
 
 -- a term where it lies: its tree, the place of its first byte in the input, and its parent's place in the row
@@ -24,6 +25,6 @@ unfoldable mutual
   nodesAll (more t ts) start parent first = nodes t start parent first ++ nodesAll ts (start + length (bytes t)) parent (first + size t)
 
 -- what it is for one of them to lie in the input b: its tree is a term, whose bytes stand at its start
-pub record Lies (b : List ℕ) (n : Node) : Type 0 where
-  pub laid : Laid (n .tree)
+pub record Lies (allow : Allowed) (b : List ℕ) (n : Node) : Type 0 where
+  pub laid : Laid allow (n .tree)
   pub stands : Stands b (n .start) (bytes (n .tree))

@@ -42,6 +42,7 @@ pub fn shape_at(b: &[u8], at: usize) -> Shape
         90 => inner(at + 3, 1, 4 + 4 * fields::u16_at(b, at + 1) as usize),
         113 => inner(at + 1, 3, 0),
         112 => inner(at + 30, fields::u32_at(b, at + 26) as usize + 4, 0),
+        82 => ends(at + 2),
         _ => ends(at),
     }
 }
@@ -87,6 +88,7 @@ pub fn short_at(b: &[u8], at: usize) -> usize
         106 => at + 1,
         119 => at + 2 + fields::u8_at(b, at + 1) as usize,
         109 => at + 5 + fields::u32_at(b, at + 1) as usize,
+        82 => at + 2,
         _ => 0,
     }
 }

@@ -6,6 +6,7 @@ use mathlib.Core.Path.{_≡_, refl, ap, sym, _∙_}
 use mathlib.Core.List.{List, _++_}
 use mathlib.Core.Bool.{Bool, true, false, cond}
 use lib.ListN.{length}
+use Rattle.numbers.specs.Allowed.{plain}
 use Rattle.numbers.specs.Caps as cap
 use Rattle.layouts.specs.Tree.{Tree, Forest, none, more, count, bytes, bytesAll, Stands}
 use Rattle.layouts.specs.Layout.{AllLaid, one-more}
@@ -30,7 +31,7 @@ entry : {b : List ℕ} {p n : ℕ} {ts : Forest} → 1 < n → Terms b p n ts �
 unfolding count bytes
 entry {b} {p} {n} {ts} h t = go ts (t .laid) (t .counted) (t .stands)
   where
-    go : (ts : Forest) → AllLaid ts → count ts ≡ n → Stands b p (bytesAll ts) → Entry b p n ts
+    go : (ts : Forest) → AllLaid plain ts → count ts ≡ n → Stands b p (bytesAll ts) → Entry b p n ts
     go none l c s = absurd (omega arith)
     go (more x none) l c s = absurd (omega arith)
     go (more x (more y zs)) (one-more a (one-more a' l)) c s =

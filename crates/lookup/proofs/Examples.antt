@@ -8,6 +8,7 @@ use lib.Dec.{lit≤}
 use lib.IntN.{pos, negsuc}
 use lib.ListN.{length}
 use lib.Seq.{take-length}
+use Rattle.numbers.specs.Allowed.{plain}
 use Rattle.fields.specs.Be.{be, signed}
 use Rattle.utf8.specs.Unicode.{scalar, encode}
 use Rattle.utf8.specs.Good as good
@@ -21,7 +22,7 @@ use Rattle.lookup.specs.Inner.Found.{sameBytes, sameInteger, equal, foun
 use Rattle.lookup.proofs.Says.{one-looked}
 
 -- a term that is there is read, and what is looked up in it goes by its tree
-module _ (t : Tree) (a : Laid t) (low : depth t ≤ 64) (short : length (bytes t) ≤ 16777215) where
+module _ (t : Tree) (a : Laid plain t) (low : depth t ≤ 64) (short : length (bytes t) ≤ 16777215) where
   stands : Stands (131 ∷ bytes t) 1 (bytes t)
   stands = record { inside = omega arith; same = take-length (bytes t) }
 
@@ -30,7 +31,7 @@ module _ (t : Tree) (a : Laid t) (low : depth t ≤ 64) (short : length (bytes t
 
   is-read : (read .number ≡ 0) × (read .end ≡ 1 + length (bytes t)) × (read .begun ≡ size t)
   unfolding read
-  is-read = read-complete (131 ∷ bytes t) 1 64 t a (omega arith) low (omega arith) (omega arith) stands
+  is-read = read-complete plain (131 ∷ bytes t) 1 64 t a (omega arith) low (omega arith) (omega arith) stands
 
   by-tree : {k : Key} {r : Answer} → Looked (131 ∷ bytes t) 1 64 k r → r ≡ looked k 1 t read
   unfolding read
@@ -43,7 +44,7 @@ pairs =
     (more (leaf 97 (1 ∷ [])) (more (leaf 97 (7 ∷ []))
     (more (leaf 98 (0 ∷ 0 ∷ 0 ∷ 1 ∷ [])) (more (leaf 97 (8 ∷ [])) none)))) []
 
-pairs-laid : Laid pairs
+pairs-laid : Laid plain pairs
 unfolding pairs be count
 pairs-laid =
     map {m = 2} (record { wide = refl; is = refl }) (lit≤ tt) refl
@@ -62,12 +63,12 @@ last-wins {r} l =
 only : Tree → Tree
 only x = node 116 (0 ∷ 0 ∷ 0 ∷ 1 ∷ []) (more x (more (leaf 106 []) none)) []
 
-only-laid : {x : Tree} → Laid x → Laid (only x)
+only-laid : {x : Tree} → Laid plain x → Laid plain (only x)
 unfolding only be count
 only-laid a = map {m = 1} (record { wide = refl; is = refl }) (lit≤ tt) refl (one-more a (one-more (row nil) no-more))
 
 -- 131 116 0 0 0 1 98 255 255 255 255 106: key -1 is found at 11. A lookup without two's complement says Absent
-minus-one : Laid (leaf 98 (255 ∷ 255 ∷ 255 ∷ 255 ∷ []))
+minus-one : Laid plain (leaf 98 (255 ∷ 255 ∷ 255 ∷ 255 ∷ []))
 minus-one = row (integer refl)
 
 pub signed-key : {r : Answer} → Looked (131 ∷ 116 ∷ 0 ∷ 0 ∷ 0 ∷ 1 ∷ 98 ∷ 255 ∷ 255 ∷ 255 ∷ 255 ∷ 106 ∷ []) 1 64 (number (negsuc 0)) r → (r .number ≡ 0) × (r .offset ≡ 11)
@@ -77,7 +78,7 @@ signed-key l =
     (ap (λ (x : Answer). x .number) e ∙ is-read (only _) (only-laid minus-one) (omega arith) (omega arith) .0, ap (λ (x : Answer). x .offset) e)
 
 -- 131 116 0 0 0 1 110 1 0 1 106: key 1 is Absent, at the map. A lookup that compares big integers finds it
-big-one : Laid (leaf 110 (1 ∷ 0 ∷ 1 ∷ []))
+big-one : Laid plain (leaf 110 (1 ∷ 0 ∷ 1 ∷ []))
 unfolding be
 big-one = row (small-big (1 ∷ []) 0 (1 ∷ []) (record { wide = refl; is = refl }))
 
@@ -86,7 +87,7 @@ unfolding only bytes depth equal found looked
 big-key l = let e = by-tree (only _) (only-laid big-one) (omega arith) (omega arith) l in (ap (λ (x : Answer). x .number) e, ap (λ (x : Answer). x .offset) e)
 
 -- 131 116 0 0 0 1 119 2 97 98 106: the name 97 is Absent, at the map. A lookup that compares as many bytes as it is asked for finds it
-two-letters : Laid (leaf 119 (2 ∷ 97 ∷ 98 ∷ []))
+two-letters : Laid plain (leaf 119 (2 ∷ 97 ∷ 98 ∷ []))
 unfolding be scalar encode good.spelled
 two-letters =
     let text : good.Utf8 (97 ∷ 98 ∷ []) = record { chars = 97 ∷ 98 ∷ []; scalars = good.more refl (good.more refl good.none); is = refl } in
@@ -97,7 +98,7 @@ unfolding only bytes depth sameBytes equal found looked
 longer-name l = let e = by-tree (only _) (only-laid two-letters) (omega arith) (omega arith) l in (ap (λ (x : Answer). x .number) e, ap (λ (x : Answer). x .offset) e)
 
 -- 131 116 0 0 0 1 107 0 1 97 106: the name 97 is Absent. A lookup that compares bytes whatever their tag finds it
-one-letter : Laid (leaf 107 (0 ∷ 1 ∷ 97 ∷ []))
+one-letter : Laid plain (leaf 107 (0 ∷ 1 ∷ 97 ∷ []))
 unfolding be
 one-letter = row (string (0 ∷ 1 ∷ []) (97 ∷ []) (record { wide = refl; is = refl }))
 

@@ -12,6 +12,7 @@ use lib.Seq.{drop-at}
 use mir.Syntax.{w64}
 use mir.Val.{SFits, ofZ}
 use borrow.Author.Tests.{ne-eqb}
+use Rattle.numbers.specs.Allowed.{plain}
 use Rattle.fields.specs.Be.{be, beAt, signed}
 use Rattle.fields.specs.Field.{integerAt}
 use Rattle.fields.specs.declared.Integer.the-variants as integer
@@ -71,11 +72,11 @@ module _ {b : List ℕ} {p : ℕ} where
       let q : take (e - from) (drop from b) ≡ drop k (n ++ m) = rw (i, j) (y .same) ∙ sym (drop-at n m k w) in
       record { within = omega arith; inside = omega (arith, y .inside); tells = λ s. ap (λ (r : List ℕ). sameBytes r s) q ∙ sym (h s) }
 
-  short-at : {e : ℕ} {t : Tree} → Laid t → Only 119 (tagOf t) → e ≡ p + length (bytes t) → Stands b p (bytes t) → Named b (p + 2) e t
+  short-at : {e : ℕ} {t : Tree} → Laid plain t → Only 119 (tagOf t) → e ≡ p + length (bytes t) → Stands b p (bytes t) → Named b (p + 2) e t
   unfolding equal
   short-at (row (small-atom n m w u)) it f x = name-at 119 1 n m (w .wide) (omega arith) f x (λ s. refl)
 
-  long-at : {e : ℕ} {t : Tree} → Laid t → Long (tagOf t) → e ≡ p + length (bytes t) → Stands b p (bytes t) → Named b (p + 3) e t
+  long-at : {e : ℕ} {t : Tree} → Laid plain t → Long (tagOf t) → e ≡ p + length (bytes t) → Stands b p (bytes t) → Named b (p + 3) e t
   unfolding equal
   long-at (row (old-atom n m w u)) old f x = name-at 100 2 n m (w .wide) (omega arith) f x (λ s. refl)
   long-at (row (atom n m w u)) new f x = name-at 118 2 n m (w .wide) (omega arith) f x (λ s. refl)
@@ -87,14 +88,14 @@ module _ {b : List ℕ} {p : ℕ} where
       let y = front-at tag l x in
       (omega (arith, y .inside), ap be (ap (λ (j : ℕ). take j (drop (p + 1) b)) (sym w) ∙ y .same))
 
-  byte-at : {t : Tree} → Laid t → Only 97 (tagOf t) → Stands b p (bytes t) → (p + 1 < length b) × ((z : ℤ) → sameInteger (pos (getD b (p + 1) 0)) z ≡ equal (number z) t)
+  byte-at : {t : Tree} → Laid plain t → Only 97 (tagOf t) → Stands b p (bytes t) → (p + 1 < length b) × ((z : ℤ) → sameInteger (pos (getD b (p + 1) 0)) z ≡ equal (number z) t)
   unfolding equal
   byte-at (row (small-integer {l} w)) it x =
       let (h, g) = number-at 97 1 l w x in
       let e : getD b (p + 1) 0 ≡ be l = sym (be-one b (p + 1) (omega arith)) ∙ g in
       (omega arith, λ z. rw e)
 
-  word-at : {t : Tree} → Laid t → Only 98 (tagOf t) → Stands b p (bytes t) → (integer.Is (signed (be (frontOf t))) ≡ integerAt b (p + 1)) × ((z : ℤ) → sameInteger (signed (be (frontOf t))) z ≡ equal (number z) t)
+  word-at : {t : Tree} → Laid plain t → Only 98 (tagOf t) → Stands b p (bytes t) → (integer.Is (signed (be (frontOf t))) ≡ integerAt b (p + 1)) × ((z : ℤ) → sameInteger (signed (be (frontOf t))) z ≡ equal (number z) t)
   unfolding equal
   word-at (row (integer {l} w)) it x =
       let (h, g) = number-at 98 4 l w x in

@@ -4,6 +4,7 @@ use mathlib.Core.Path.{_≡_, refl, ap, sym, subst, _∙_}
 use mathlib.Core.List.{List, []}
 use lib.ListN.{length, getD}
 use borrow.Author.Tests.{eq-eqb, ne-eqb}
+use Rattle.numbers.specs.Allowed.{plain}
 use Rattle.numbers.specs.Caps as cap
 use Rattle.fields.specs.Field.{numberAt}
 use Rattle.numbers.specs.Numbers as answer
@@ -46,10 +47,10 @@ module _ (b : List ℕ) (at limit : ℕ) {a : Answer} (is : a ≡ readAt b at li
     fine = ap (λ (x : Answer). x .number) (sym is) ∙ ok
 
     pub short : length b ≤ cap.input
-    short = read-short b at limit fine
+    short = read-short plain b at limit fine
 
     pub a-term : OneTerm b at
-    a-term = let f = read-sound b at limit fine in record { short = short; tree = f .tree; is = record { laid = f .laid; stands = f .stands } }
+    a-term = let f = read-sound plain b at limit fine in record { short = short; tree = f .tree; is = record { laid = f .laid; stands = f .stands } }
 
     pub its-kids : (s : Shape) → s ≡ shapeAt b at → SomeTerms b (s .from) (s .kids)
     its-kids s e = record { short = short; forest = kidsOf (a-term .tree); are = kids-at (a-term .tree) short (a-term .is) s e }

@@ -8,6 +8,7 @@ use mathlib.Core.Bool.{Bool, true, false}
 use lib.Dec.{eqb}
 use lib.ListN.{length}
 use borrow.Author.Tests.{eqb-true, eqb-false}
+use Rattle.numbers.specs.Allowed.{plain}
 use Rattle.numbers.specs.Caps as cap
 use Rattle.numbers.specs.Numbers as number
 use Rattle.numbers.specs.Numbers.{among, Listed}
@@ -33,7 +34,7 @@ one-answer {b} {at} {limit} {k} {r} {r'} l l' = go (eqb (readAt b at limit .numb
     go false h = let n = eqb-false (readAt b at limit .number) 0 h in l .refused n ∙ sym (l' .refused n)
     go true h =
         let e = eqb-true (readAt b at limit .number) 0 h in
-        let f = read-sound b at limit e in
+        let f = read-sound plain b at limit e in
         one-looked k at _ (l .done e (f .tree) (f .laid) (f .stands)) ∙ sym (one-looked k at _ (l' .done e (f .tree) (f .laid) (f .stands)))
 
 -- what the reading's answer has, at whatever offset, and a refusal behind it with its counts, every answer that the promise allows has
@@ -54,20 +55,20 @@ answers {b} {at} {limit} {k} {r} l P read finds refuses = go (eqb (readAt b at l
     go false h = rw (l .refused (eqb-false (readAt b at limit .number) 0 h)) read
     go true h =
         let e = eqb-true (readAt b at limit .number) 0 h in
-        let f = read-sound b at limit e in
+        let f = read-sound plain b at limit e in
         rw (one-looked k at _ (l .done e (f .tree) (f .laid) (f .stands))) (looks (f .tree))
 
 module _ {b : List ℕ} {at limit : ℕ} {k : Key} {r : Answer} (l : Looked b at limit k r) where
   -- its path is the reading's, or empty
   pub few-segments : r .len ≤ cap.nesting
-  few-segments = let read = bounds.few-segments b at limit in answers l (λ a. a .len ≤ cap.nesting) read (λ q. read) (λ n x h. omega arith)
+  few-segments = let read = bounds.few-segments plain b at limit in answers l (λ a. a .len ≤ cap.nesting) read (λ q. read) (λ n x h. omega arith)
 
   -- it is Done, or refused by a number of the list
   pub answer-shown : Shown (outcome (r .number))
-  answer-shown = let read = read-shown b limit at in answers l (λ a. Shown (outcome (a .number))) read (λ q. read) (λ n x. listed-shown n)
+  answer-shown = let read = read-shown plain b limit at in answers l (λ a. Shown (outcome (a .number))) read (λ q. read) (λ n x. listed-shown n)
 
 -- every answer about a map that was read tells what the words say of its entries
 pub map-answer : (k : Key) {b : List ℕ} {at limit : ℕ} {r : Answer} {front back : List ℕ} {kids : Forest} (o : Place) → Looked b at limit k r → readAt b at limit .number ≡ 0 →
-    Laid (node 116 front kids back) → Stands b at (bytes (node 116 front kids back)) → Says k (at + 1 + length front) kids o → r ≡ told at (readAt b at limit) o
+    Laid plain (node 116 front kids back) → Stands b at (bytes (node 116 front kids back)) → Says k (at + 1 + length front) kids o → r ≡ told at (readAt b at limit) o
 unfolding looked
 map-answer k {b} {at} {limit} {front = front} {kids = kids} o l e a s w = one-looked k at _ (l .done e _ a s) ∙ ap (told at (readAt b at limit)) (says-found k o (at + 1 + length front) kids w)

@@ -5,6 +5,7 @@ use native.Mathlib.Omega.{arith}
 use mathlib.Core.Path.{_≡_, refl, ap, sym, _∙_, subst}
 use mathlib.Core.List.{List, [], _∷_, _++_, append-assoc, append-nil}
 use lib.ListN.{length, length-append}
+use Rattle.numbers.specs.Allowed.{plain}
 use Rattle.numbers.specs.Caps as cap
 use Rattle.layouts.specs.declared.Shape.{Shape}
 use Rattle.layouts.specs.Inner.Shape.{shapeAt, shapeOf}
@@ -29,7 +30,7 @@ unfolding join count
 join-count none ts = omega arith
 join-count (more x xs) ts = omega (arith, join-count xs ts)
 
-join-laid : {xs ts : Forest} → AllLaid xs → AllLaid ts → AllLaid (join xs ts)
+join-laid : {xs ts : Forest} → AllLaid plain xs → AllLaid plain ts → AllLaid plain (join xs ts)
 unfolding join
 join-laid no-more a = a
 join-laid (one-more l k) a = one-more l (join-laid k a)
@@ -78,8 +79,8 @@ record First (b : List ℕ) (p n e : ℕ) : Type 0 where
   kids : Forest
   back : List ℕ
   others : Forest
-  laid : Laid (node tag front kids back)
-  others-laid : AllLaid others
+  laid : Laid plain (node tag front kids back)
+  others-laid : AllLaid plain others
   counted : suc (count others) ≡ n
   stands : Stands b p (bytes (node tag front kids back) ++ bytesAll others)
   ends : p + length (bytes (node tag front kids back) ++ bytesAll others) ≡ e
@@ -88,7 +89,7 @@ apart : {b : List ℕ} {p n e : ℕ} → 0 < n → Owed b p n e → First b p n 
 unfolding bytes count
 apart {b} {p} {n} {e} h o = go (o .terms) (o .are .laid) (o .are .counted) (o .are .stands) (o .ends)
   where
-    go : (ts : Forest) → AllLaid ts → count ts ≡ n → Stands b p (bytesAll ts) → p + length (bytesAll ts) ≡ e → First b p n e
+    go : (ts : Forest) → AllLaid plain ts → count ts ≡ n → Stands b p (bytesAll ts) → p + length (bytesAll ts) ≡ e → First b p n e
     go none l c s f = absurd (omega arith)
     go (more (node tag front kids back) ts) (one-more a k) c s f =
         record {
@@ -109,11 +110,11 @@ empty [] h = refl
 empty (x ∷ l) h = absurd (omega arith)
 
 -- one child without children ends where its shape says
-leaf-end : (b : List ℕ) (p : ℕ) {kids : Forest} → length b ≤ cap.input → OneLeaf kids → AllLaid kids → Stands b p (bytesAll kids) → shapeAt b p .from ≡ p + length (bytesAll kids)
+leaf-end : (b : List ℕ) (p : ℕ) {kids : Forest} → length b ≤ cap.input → OneLeaf kids → AllLaid plain kids → Stands b p (bytesAll kids) → shapeAt b p .from ≡ p + length (bytesAll kids)
 unfolding bytes
-leaf-end b p short o = subst (λ (ks : Forest). AllLaid ks → Stands b p (bytesAll ks) → shapeAt b p .from ≡ p + length (bytesAll ks)) (sym (o .is)) go
+leaf-end b p short o = subst (λ (ks : Forest). AllLaid plain ks → Stands b p (bytesAll ks) → shapeAt b p .from ≡ p + length (bytesAll ks)) (sym (o .is)) go
   where
-    go : AllLaid (more (leaf (o .tag) (o .front)) none) → Stands b p (bytesAll (more (leaf (o .tag) (o .front)) none)) → shapeAt b p .from ≡ p + length (bytesAll (more (leaf (o .tag) (o .front)) none))
+    go : AllLaid plain (more (leaf (o .tag) (o .front)) none) → Stands b p (bytesAll (more (leaf (o .tag) (o .front)) none)) → shapeAt b p .from ≡ p + length (bytesAll (more (leaf (o .tag) (o .front)) none))
     go (one-more a k) s = ap (λ (h : Shape). h .from) (shape-is b p _ short a (left b p _ [] s)) ∙ simp length-append (omega arith)
 
 -- one step on, to p' and n' terms
@@ -186,7 +187,7 @@ pub leaf-ends : {b : List ℕ} {p : ℕ} {s : Shape} → length b ≤ cap.input 
 unfolding bytes count
 leaf-ends {b} {p} {s} short e z = record { is = λ t x. by-tree t x (e ∙ shape-is b p t short (x .laid) (x .stands)) }
   where
-    behind-none : {tag : ℕ} {front back : List ℕ} → Laid (node tag front none back) → back ≡ []
+    behind-none : {tag : ℕ} {front back : List ℕ} → Laid plain (node tag front none back) → back ≡ []
     behind-none {back = []} l = refl
     behind-none {back = x ∷ r} l =
         let o = one-leaf l (λ h. absurd (let n : _≡_ {A = ℕ} (suc (length r)) 0 = ap length h in omega arith)) in

@@ -5,6 +5,7 @@ use mathlib.Core.Path.{_≡_}
 use mathlib.Core.List.{List, []}
 use lib.IntN.{ℤ, pos}
 use lib.ListN.{length, drop}
+use Rattle.numbers.specs.Allowed.{plain}
 use Rattle.fields.specs.Be.{be, signed}
 use Rattle.numbers.specs.Numbers as answer
 use Rattle.reading.specs.declared.Answer.{Answer}
@@ -51,4 +52,4 @@ pub data Answers (k : Key) (at : ℕ) (a : Answer) : Tree → Answer → Type 0 
 -- laws of layouts (read-sound, unique)
 pub record Looked (b : List ℕ) (at limit : ℕ) (k : Key) (r : Answer) : Type 0 where
   pub refused : ¬ (readAt b at limit .number ≡ 0) → r ≡ readAt b at limit
-  pub done : readAt b at limit .number ≡ 0 → (t : Tree) → Laid t → Stands b at (bytes t) → Answers k at (readAt b at limit) t r
+  pub done : readAt b at limit .number ≡ 0 → (t : Tree) → Laid plain t → Stands b at (bytes t) → Answers k at (readAt b at limit) t r

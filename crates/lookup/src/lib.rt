@@ -46,7 +46,7 @@ pub fn find_number(b: &[u8], at: usize, limit: usize, number: i64) -> Answer
 fn find(b: &[u8], at: usize, limit: usize, key: Key, name: &[u8]) -> Answer
     ensures { λ r. ⌜ Looked (now (b .entry)) at limit (keyOf key (now (name .entry))) r ⌝ }
 {
-    let mut a = terms::read(b, at, limit);
+    let mut a = terms::read(b, at, reading::plainly(limit));
     if a.number != numbers::DONE {
         return a;
     }

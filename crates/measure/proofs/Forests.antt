@@ -2,6 +2,7 @@
 use Prim.Native.Nat.{ℕ, zero, suc, _+_, _≤_}
 use native.Mathlib.Omega.{arith}
 use mathlib.Core.Path.{_≡_, refl, ap}
+use Rattle.numbers.specs.Allowed.{plain}
 use Rattle.layouts.specs.Tree.{Forest, none, more, count}
 use Rattle.layouts.specs.Layout as layout
 use Rattle.layouts.specs.Layout.{AllLaid, no-more, one-more, row}
@@ -24,19 +25,19 @@ unfolding count ended
 count-ended none = refl
 count-ended (more t ts) = omega (arith, count-ended ts)
 
-pub laid-first : (n : ℕ) {ts : Forest} → AllLaid ts → AllLaid (first n ts)
+pub laid-first : (n : ℕ) {ts : Forest} → AllLaid plain ts → AllLaid plain (first n ts)
 unfolding first
 laid-first zero l = no-more
 laid-first (suc n) no-more = no-more
 laid-first (suc n) (one-more t l) = one-more t (laid-first n l)
 
-pub laid-behind : (n : ℕ) {ts : Forest} → AllLaid ts → AllLaid (behind n ts)
+pub laid-behind : (n : ℕ) {ts : Forest} → AllLaid plain ts → AllLaid plain (behind n ts)
 unfolding behind
 laid-behind zero l = l
 laid-behind (suc n) no-more = no-more
 laid-behind (suc n) (one-more t l) = laid-behind n l
 
-pub laid-ended : {ts : Forest} → AllLaid ts → AllLaid (ended ts)
+pub laid-ended : {ts : Forest} → AllLaid plain ts → AllLaid plain (ended ts)
 unfolding ended
 laid-ended no-more = one-more (row layout.nil) no-more
 laid-ended (one-more t l) = one-more t (laid-ended l)

@@ -10,6 +10,7 @@ use lib.Dec.{eqb, ltb, leb}
 use lib.IntN.{ℤ, pos, negsuc}
 use lib.ListN.{length}
 use borrow.Author.Tests.{eqb-true, leb-true}
+use Rattle.numbers.specs.Allowed.{plain}
 use Rattle.numbers.specs.Caps as cap
 use Rattle.fields.specs.Be.{bytesOf, digitsOf}
 use Rattle.fields.proofs.Inverse.{be-bytesOf, length-bytesOf}
@@ -27,21 +28,21 @@ use Rattle.measure.proofs.Forests.{count-first, count-ended, laid-first
 number : (k n : ℕ) → n < 256 ^ k → Number k (bytesOf k n) n
 number k n h = record { wide = length-bytesOf k n; is = be-bytesOf k n h }
 
-big-laid : (s m : ℕ) → Laid (big s m)
+big-laid : (s m : ℕ) → Laid plain (big s m)
 unfolding big
 big-laid s m = row (layout.small-big (bytesOf 1 (length (digitsOf 8 m))) s (digitsOf 8 m) (number 1 (length (digitsOf 8 m)) (omega (arith, few-digits 8 m))))
 
-integer-laid : (z : ℤ) → Laid (integerTree z)
+integer-laid : (z : ℤ) → Laid plain (integerTree z)
 unfolding integerTree
 integer-laid (pos n) = go (ltb n 256) (ltb n 2147483648)
   where
-    go : (x y : Bool) → Laid (cond x (leaf 97 (bytesOf 1 n)) (cond y (leaf 98 (bytesOf 4 n)) (big 0 n)))
+    go : (x y : Bool) → Laid plain (cond x (leaf 97 (bytesOf 1 n)) (cond y (leaf 98 (bytesOf 4 n)) (big 0 n)))
     go true y = row (layout.small-integer (length-bytesOf 1 n))
     go false true = row (layout.integer (length-bytesOf 4 n))
     go false false = big-laid 0 n
 integer-laid (negsuc n) = go (ltb n 2147483648)
   where
-    go : (x : Bool) → Laid (cond x (leaf 98 (bytesOf 4 (4294967295 - n))) (big 1 (suc n)))
+    go : (x : Bool) → Laid plain (cond x (leaf 98 (bytesOf 4 (4294967295 - n))) (big 1 (suc n)))
     go true = row (layout.integer (length-bytesOf 4 (4294967295 - n)))
     go false = big-laid 1 (suc n)
 
@@ -49,24 +50,24 @@ pub both : (x y : Bool) → (x && y) ≡ true → (x ≡ true) × (y ≡ true)
 both true y e = (refl, e)
 both false y e = (e, absurd (omega (arith, ap {B = ℕ} (λ (z : Bool). cond z 1 0) e)))
 
-module _ {ks : Forest} (l : AllLaid ks) where
-  tuple-laid : (n : ℕ) → n ≤ cap.elements → count ks ≡ n → Laid (treeOf (tuple n) ks)
+module _ {ks : Forest} (l : AllLaid plain ks) where
+  tuple-laid : (n : ℕ) → n ≤ cap.elements → count ks ≡ n → Laid plain (treeOf (tuple n) ks)
   unfolding treeOf
   tuple-laid n h c = go (leb n 255) refl
     where
-      go : (x : Bool) → leb n 255 ≡ x → Laid (cond x (node 104 (bytesOf 1 n) ks []) (node 105 (bytesOf 4 n) ks []))
+      go : (x : Bool) → leb n 255 ≡ x → Laid plain (cond x (node 104 (bytesOf 1 n) ks []) (node 105 (bytesOf 4 n) ks []))
       go true e = layout.small-tuple {n = bytesOf 1 n} {ts = ks} (rw c (number 1 n (omega (arith, leb-true n 255 e)))) l
       go false e = layout.large-tuple {n = bytesOf 4 n} {ts = ks} (rw c (number 4 n (omega arith))) (omega arith) l
 
-  atom-laid : (s : List ℕ) → length s ≤ 65535 → Utf8 s → Laid (treeOf (atom s) ks)
+  atom-laid : (s : List ℕ) → length s ≤ 65535 → Utf8 s → Laid plain (treeOf (atom s) ks)
   unfolding treeOf
   atom-laid s h u = go (leb (length s) 255) refl
     where
-      go : (x : Bool) → leb (length s) 255 ≡ x → Laid (cond x (leaf 119 (bytesOf 1 (length s) ++ s)) (leaf 118 (bytesOf 2 (length s) ++ s)))
+      go : (x : Bool) → leb (length s) 255 ≡ x → Laid plain (cond x (leaf 119 (bytesOf 1 (length s) ++ s)) (leaf 118 (bytesOf 2 (length s) ++ s)))
       go true e = row (layout.small-atom (bytesOf 1 (length s)) s (number 1 (length s) (omega (arith, leb-true (length s) 255 e))) u)
       go false e = row (layout.atom (bytesOf 2 (length s)) s (number 2 (length s) (omega arith)) u)
 
-  tree-laid : (i : Item) → allowed i ≡ true → count ks ≡ kidsOf i → Laid (treeOf i ks)
+  tree-laid : (i : Item) → allowed i ≡ true → count ks ≡ kidsOf i → Laid plain (treeOf i ks)
   unfolding treeOf allowed kidsOf
   tree-laid (integer z) a c = integer-laid z
   tree-laid (double n) a c = row (layout.double (length-bytesOf 8 n))
@@ -94,7 +95,7 @@ sound-is i s e =
     record { item = a; kids = leb-true _ _ k; rest = r }
 
 -- (a) the trees of a row are terms
-pub laid : (s : List Item) → sound s ≡ true → AllLaid (treesOf s)
+pub laid : (s : List Item) → sound s ≡ true → AllLaid plain (treesOf s)
 unfolding treesOf
 laid [] e = no-more
 laid (i ∷ s) e =
@@ -129,7 +130,7 @@ alone (more t (more u ts)) c = absurd (omega arith)
 pub record Whole (s : List Item) : Type 0 where
   pub tree : Tree
   pub only : treesOf s ≡ more tree none
-  pub laid : Laid tree
+  pub laid : Laid plain tree
   pub is : written s ≡ 131 ∷ bytes tree
   pub nested : depth tree ≤ cap.nesting
 
@@ -146,5 +147,5 @@ whole s e =
       nested = omega (arith, ap depths f, a .shallow, le-max-left (depth t) 0);
     }
   where
-    the : {t : Tree} → AllLaid (more t none) → Laid t
+    the : {t : Tree} → AllLaid plain (more t none) → Laid plain t
     the (one-more p no-more) = p

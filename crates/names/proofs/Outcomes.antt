@@ -6,9 +6,9 @@ use lib.ListN.{take, drop}
 use Rattle.numbers.proofs.Laws.{Outcome, done as well, refused, outcome, Shown, listed-shown}
 use Rattle.references.specs.declared.Reference.{Reference}
 use Rattle.references.specs.declared.Reference.the-variants as ref
-use Rattle.references.specs.Header.{headerOf}
+use Rattle.references.specs.Header.{headerOf, references}
 use Rattle.references.proofs.Outcomes.{Fine}
-use Rattle.references.proofs.Every.{All, none, more, all-fine}
+use Rattle.references.proofs.Every.{All, none, more, some-fine, all-fine}
 use Rattle.names.specs.Form.{Put, done, no, Form, Left, after, putAll, over}
 
 -- what becomes of a name: what it comes to
@@ -31,6 +31,9 @@ module _ (F : Form) (shown : (s : F .State) (i : ℕ) (n : List ℕ) → Shown (
   of-all rest (ref.Old slot ∷ rs) (more h hs) s = of-all rest rs hs s
   of-all rest (ref.New slot at n ∷ rs) (more h hs) s = by-put s _ _ (shown s slot (take n (drop at b))) (of-all rest rs hs)
   of-all rest (ref.No n x ∷ rs) (more h hs) s = listed-shown n h
+
+  pub names-shown : (wide i k p : ℕ) (s : F .State) → Shown (outcome (over F b (references b wide i k p) s .number))
+  names-shown wide i k p s = of-all _ _ (some-fine b wide i k p) s
 
   pub over-shown : (s : F .State) → Shown (outcome (over F b (headerOf b) s .number))
   over-shown s = of-all _ _ (all-fine b) s

@@ -1,5 +1,6 @@
 -- A cache of names: what a form of it is, and what a header leaves of one. Document 01, "Name cache", with what it says of slots left out.
 use Prim.Native.Nat.{ℕ}
+use mathlib.Core.Bool.{Bool, true, false}
 use mathlib.Core.List.{List, [], _∷_}
 use lib.ListN.{take, drop}
 use Rattle.references.specs.declared.Reference.{Reference}
@@ -10,6 +11,10 @@ use Rattle.references.specs.Header.{Said}
 pub data Held : Type 0 where
   nothing : Held
   name : List ℕ → Held
+
+abbrev pub isName : Held → Bool
+isName nothing = false
+isName (name n) = true
 
 -- what becomes of a name that is put into a cache: the cache with it, or a refusal's number and extra
 pub data Put (State : Type 0) : Type 0 where

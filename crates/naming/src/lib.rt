@@ -1,6 +1,6 @@
 // The requests about the names that headers bring (docs/REQUESTS.md), and their answers as text. The names are handed on with each answer: their
-// record by value, and the store that belongs to it is lent. All take any store; what is printed is held against stored output by the
-// programs' tests.
+// record by value, and the store that belongs to it is lent. So is the run in which the last message's positions are noted. All take any store
+// and run; what is printed is held against stored output by the programs' tests.
 use asking::Asked;
 use cache::Cache;
 use cache::Got;
@@ -11,35 +11,44 @@ pub struct Reached {
     pub names: Cache,
 }
 
-// The answer to `header`, `names`, `count`, `clear` and `get`; to any other it is `unknown`.
+// The answer to `header`, `names`, `count`, `clear`, `get`, `position` and `atom`; to any other it is `unknown`.
 pub fn answer(
     line: &mut [u8],
     known: Cache,
     store: &mut [u8],
+    noted: &mut [u8; 256],
     out: &mut [u8],
     at: usize,
 ) -> Reached {
     let l = asking::of(line);
     let n = l.len;
+    let b = &line[..n];
     let asked = l.asked;
     match asked {
-        Asked::Header => header(&line[..n], known, store, out, at),
-        Asked::Clear => cleared(out, at),
-        _ => with(shown(asked, l.first, known, store, out, at), known),
+        Asked::Header => header(b, known, store, out, at),
+        Asked::Clear => cleared(noted, out, at),
+        _ => with(
+            shown(asked, b, l.first, known, store, noted, out, at),
+            known,
+        ),
     }
 }
 
-// What changes no name.
+// What changes no name and no position.
 fn shown(
     asked: Asked,
-    slot: usize,
+    b: &[u8],
+    first: usize,
     known: Cache,
     store: &[u8],
+    noted: &[u8; 256],
     out: &mut [u8],
     at: usize,
 ) -> usize {
     match asked {
-        Asked::Get => get(known, store, slot, out, at),
+        Asked::Get => get(known, store, first, out, at),
+        Asked::Position => position(known, store, noted, first, out, at),
+        Asked::Atom => atom(b, first, known, store, noted, out, at),
         Asked::Names => all(known, store, out, at),
         Asked::Count => count(known, out, at),
         _ => asking::refused(asked, out, at),
@@ -68,7 +77,9 @@ fn told(number: u64, rest: u64, extra: u64, out: &mut [u8], at: usize) -> usize 
     )
 }
 
-fn cleared(out: &mut [u8], at: usize) -> Reached {
+// No names, and a header with no references.
+fn cleared(noted: &mut [u8; 256], out: &mut [u8], at: usize) -> Reached {
+    noted[0] = 0;
     let none = cache::empty();
     with(count(none, out, at), none)
 }
@@ -101,16 +112,51 @@ fn filled(c: Cache, store: &[u8], slot: u8, out: &mut [u8], at: usize) -> usize 
     }
 }
 
-// The name in a slot: its place in the store, its length, and its bytes. There are 256 slots.
+// The name in a slot. There are 256 slots.
 fn get(c: Cache, store: &[u8], slot: usize, out: &mut [u8], at: usize) -> usize {
     if 255 < slot {
         return asking::refused(Asked::Unknown, out, at);
     }
     let g = cache::get(c, store, slot as u8);
+    named(g, cache::part(c, store, slot as u8), out, at)
+}
+
+// The name at a position of the last message's header. A position is one byte.
+fn position(
+    c: Cache,
+    store: &[u8],
+    noted: &[u8; 256],
+    k: usize,
+    out: &mut [u8],
+    at: usize,
+) -> usize {
+    if 255 < k {
+        return asking::refused(Asked::Unknown, out, at);
+    }
+    let g = positions::get(c, store, noted, k as u8);
+    named(g, positions::part(c, store, noted, k as u8), out, at)
+}
+
+// The name of the atom of tag 82 at a place.
+fn atom(
+    b: &[u8],
+    place: usize,
+    c: Cache,
+    store: &[u8],
+    noted: &[u8; 256],
+    out: &mut [u8],
+    at: usize,
+) -> usize {
+    let g = positions::get_at(b, place, c, store, noted);
+    named(g, positions::part_at(b, place, c, store, noted), out, at)
+}
+
+// A name that was asked for: its place in the store, its length, and its bytes.
+fn named(g: Got, name: &[u8], out: &mut [u8], at: usize) -> usize {
     match g {
         Got::Name(place, n) => {
             let put = placed(place as u64, n as u64, out, at);
-            print::word(out, put, cache::part(c, store, slot as u8))
+            print::word(out, put, name)
         }
         Got::No(number) => print::field(out, at, b"answer=", number),
     }

@@ -1,2 +1,4 @@
 pub mod Numbers
 pub mod Caps
+pub mod Bits
+pub mod Allowed

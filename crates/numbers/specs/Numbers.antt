@@ -60,11 +60,14 @@ Absent = 16
 abbrev pub Items : ℕ
 Items = 17
 
+abbrev pub Segment : ℕ
+Segment = 18
+
 -- "A refusal bears a number from document 01 or 02": a request adds its own, in a line before the last
 abbrev pub refusals : List ℕ
 refusals =
     Eof ∷ Tag ∷ Text ∷ Literal ∷ Bits ∷ Size ∷ Trailing ∷ Deep ∷ Room ∷ Long ∷ Name ∷ Version ∷ Kind ∷ Limit ∷ Store ∷ Absent ∷
-    Items ∷
+    Items ∷ Segment ∷
     []
 
 -- whether a number stands in a list, and that it is a refusal's

@@ -39,6 +39,8 @@ pub const ABSENT: u64 = 16;
 // Document 02's, from here on.
 pub const ITEMS: u64 = 17;
 
+pub const SEGMENT: u64 = 18;
+
 // The caps: the elements of a tuple of tag 105 and of a list, the pairs of a map, the bytes of a binary and of a bit string.
 pub const ELEMENTS: u64 = 10000000;
 

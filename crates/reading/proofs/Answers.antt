@@ -9,13 +9,14 @@ use lib.ListN.{length}
 use borrow.Author.Tests.{lt-ltb, le-ltb, ne-eqb, ltb-false, eqb-false}
 use Rattle.numbers.specs.Numbers as number
 use Rattle.numbers.specs.Caps as cap
+use Rattle.numbers.specs.Allowed.{Allowed}
 use Rattle.reading.specs.declared.Answer.{Answer}
 use Rattle.reading.specs.declared.Cause.{Cause}
 use Rattle.reading.specs.declared.Cause.the-variants as cause
 use Rattle.reading.specs.declared.Start.the-variants as start
 use Rattle.reading.specs.Reading.{Result}
 use Rattle.reading.specs.Terms.{term}
-use Rattle.reading.specs.Answer.{numberOf, refusal, early, answer, starts, started, readAt}
+use Rattle.reading.specs.Answer.{numberOf, refusal, early, answer, starts, started, readBy}
 use Rattle.reading.proofs.Families.{term-eof}
 
 -- whether reading may begin
@@ -62,22 +63,22 @@ module _ (limit len : ℕ) where
       go false false false e f g = let k = eqb-false limit 0 e in (omega (arith, k), (ltb-false cap.nesting limit f, ltb-false cap.input len g))
 
 -- what reading a term at a place answers
-module _ (b : List ℕ) (at limit : ℕ) where
+module _ (allow : Allowed) (b : List ℕ) (at limit : ℕ) where
   pub read-on : (o : Result) → ¬ (limit ≡ 0) → limit ≤ cap.nesting → length b ≤ cap.input →
-      o ≡ term b limit limit (record { at = at; last = 0; begun = 0; deepest = 0 }) → readAt b at limit ≡ answer o
-  unfolding readAt
+      o ≡ term allow b limit limit (record { at = at; last = 0; begun = 0; deepest = 0 }) → readBy allow b at limit ≡ answer o
+  unfolding readBy
   read-on o h k j e = rw (starts-on limit (length b) h k j, e)
 
   -- past the end there is no term
-  pub read-past : ¬ (limit ≡ 0) → limit ≤ cap.nesting → length b ≤ cap.input → length b < at → readAt b at limit ≡ refusal number.Eof at 0 0 0 []
+  pub read-past : ¬ (limit ≡ 0) → limit ≤ cap.nesting → length b ≤ cap.input → length b < at → readBy allow b at limit ≡ refusal number.Eof at 0 0 0 []
   unfolding answer
-  read-past h k j l = read-on _ h k j (sym (term-eof b limit limit _ _ (omega arith) refl))
+  read-past h k j l = read-on _ h k j (sym (term-eof allow b limit limit _ _ (omega arith) refl))
 
-  pub read-no : (c : Cause) → starts limit (length b) ≡ start.No c → readAt b at limit ≡ early (numberOf c)
-  unfolding readAt
+  pub read-no : (c : Cause) → starts limit (length b) ≡ start.No c → readBy allow b at limit ≡ early (numberOf c)
+  unfolding readBy
   read-no c e = rw e
 
   -- an input that was read is no longer than one may be
-  pub read-short : readAt b at limit .number ≡ number.Done → length b ≤ cap.input
-  unfolding readAt
+  pub read-short : readBy allow b at limit .number ≡ number.Done → length b ≤ cap.input
+  unfolding readBy
   read-short = by-start limit (length b) (λ a. a .number ≡ number.Done → length b ≤ cap.input) _ (λ e. absurd (omega arith)) (λ e. absurd (omega arith)) (λ h k l e. l)

@@ -10,7 +10,8 @@ use Rattle.utf8.specs.Unicode.{scalar, encode}
 use Rattle.utf8.specs.Inner.Find.{decode, starts, charBytes, goodFrom, goodBytes}
 use Rattle.numbers.specs.Numbers as number
 use Rattle.rows.specs.Row as row
-use Rattle.rows.specs.Layout.{rowAt}
+use Rattle.numbers.specs.Allowed.{plain}
+use Rattle.rows.specs.Layout.{leafAt, rowAt}
 use Rattle.reading.specs.declared.Answer.{Answer}
 use Rattle.reading.specs.declared.Kind.{Kind}
 use Rattle.reading.specs.declared.Kind.the-variants as kind
@@ -21,8 +22,8 @@ use Rattle.reading.specs.Answer.{refusal}
 
 -- reading behind byte 131. `unfolding behind` opens all that it computes with
 unfoldable pub behind : List ℕ → ℕ → Result
-unfolding be beAt holds fieldAt scalar encode decode starts charBytes goodFrom goodBytes row.bytes row.name row.countThen numberThen rowAt andThen entered fields pass sized counted elems pair pairs required isAtom isNatural isPid smallTuple largeTuple list map pid reference export captured function body term
-behind b limit = term b limit limit (record { at = 1; last = 0; begun = 0; deepest = 0 })
+unfolding be beAt holds fieldAt scalar encode decode starts charBytes goodFrom goodBytes row.bytes row.name row.countThen numberThen leafAt rowAt andThen entered fields pass sized counted elems pair pairs required isAtom isNatural isPid smallTuple largeTuple list map pid reference export captured function body term
+behind b limit = term plain b limit limit (record { at = 1; last = 0; begun = 0; deepest = 0 })
 
 -- where reading stands: the next byte, the last start, the terms begun, the deepest nesting
 abbrev pub stands : ℕ → ℕ → ℕ → ℕ → State

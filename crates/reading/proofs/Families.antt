@@ -8,13 +8,14 @@ use lib.ListN.{length, getD}
 use lib.Dec.{ltb}
 use borrow.Author.Tests.{lt-ltb, le-ltb, ltb-true, ltb-false, eq-eqb}
 use Rattle.numbers.specs.Caps as cap
+use Rattle.numbers.specs.Allowed.{Allowed}
 use Rattle.fields.specs.Field.{holds, fieldAt}
 use Rattle.fields.specs.declared.Field.the-variants as field
 use Rattle.fields.proofs.Laws.{is-whole, is-there, then-is, then-eof}
 use Rattle.numbers.specs.Numbers as number
 use Rattle.numbers.proofs.Laws.{none-of}
 use Rattle.rows.specs.Row.{countAt}
-use Rattle.rows.specs.Layout.{rowAt}
+use Rattle.rows.specs.Layout.{leafAt, positionAt, rowAt}
 use Rattle.rows.specs.declared.Row.{Row}
 use Rattle.rows.specs.declared.Row.the-variants.{To, No}
 use Rattle.rows.specs.declared.Counted.the-variants as count
@@ -164,89 +165,97 @@ Others tag [] = Unit {0}
 Others tag (n ∷ l) = Others tag l × ¬ (tag ≡ n)
 
 -- a tag's layout
-module _ (read : State → Result) (b : List ℕ) (tag : ℕ) (s : State) where
-  pub body-104 : tag ≡ 104 → body read b tag s ≡ smallTuple read b s
+module _ (allow : Allowed) (read : State → Result) (b : List ℕ) (tag : ℕ) (s : State) where
+  pub body-104 : tag ≡ 104 → body allow read b tag s ≡ smallTuple read b s
   unfolding body
   body-104 e = rw e
 
-  pub body-105 : tag ≡ 105 → body read b tag s ≡ largeTuple read b s
+  pub body-105 : tag ≡ 105 → body allow read b tag s ≡ largeTuple read b s
   unfolding body
   body-105 e = rw e
 
-  pub body-108 : tag ≡ 108 → body read b tag s ≡ list read b s
+  pub body-108 : tag ≡ 108 → body allow read b tag s ≡ list read b s
   unfolding body
   body-108 e = rw e
 
-  pub body-116 : tag ≡ 116 → body read b tag s ≡ map read b s
+  pub body-116 : tag ≡ 116 → body allow read b tag s ≡ map read b s
   unfolding body
   body-116 e = rw e
 
-  pub body-88 : tag ≡ 88 → body read b tag s ≡ pid read b s
+  pub body-88 : tag ≡ 88 → body allow read b tag s ≡ pid read b s
   unfolding body
   body-88 e = rw e
 
-  pub body-120 : tag ≡ 120 → body read b tag s ≡ pid read b s
+  pub body-120 : tag ≡ 120 → body allow read b tag s ≡ pid read b s
   unfolding body
   body-120 e = rw e
 
-  pub body-90 : tag ≡ 90 → body read b tag s ≡ reference read b s
+  pub body-90 : tag ≡ 90 → body allow read b tag s ≡ reference read b s
   unfolding body
   body-90 e = rw e
 
-  pub body-113 : tag ≡ 113 → body read b tag s ≡ export read b s
+  pub body-113 : tag ≡ 113 → body allow read b tag s ≡ export read b s
   unfolding body
   body-113 e = rw e
 
-  pub body-112 : tag ≡ 112 → body read b tag s ≡ function read b s
+  pub body-112 : tag ≡ 112 → body allow read b tag s ≡ function read b s
   unfolding body
   body-112 e = rw e
 
+  pub body-82 : tag ≡ 82 → body allow read b tag s ≡ fields (positionAt allow b (s .at)) s
+  unfolding body leafAt
+  body-82 e = rw e
+
   -- any other, as a match over these tags leaves it: a row without children
-  pub body-rest : Others tag (112 ∷ 113 ∷ 90 ∷ 120 ∷ 88 ∷ 116 ∷ 108 ∷ 105 ∷ 104 ∷ []) → body read b tag s ≡ fields (rowAt b tag (s .at)) s
+  pub body-rest : Others tag (112 ∷ 113 ∷ 90 ∷ 120 ∷ 88 ∷ 116 ∷ 108 ∷ 105 ∷ 104 ∷ []) → body allow read b tag s ≡ fields (leafAt allow b tag (s .at)) s
   unfolding body
   body-rest r = search none-of
 
+  -- one that isn't 82 either, where texts are read: a row of document 01's
+  pub body-row : allow .texts ≡ true → Others tag (82 ∷ 112 ∷ 113 ∷ 90 ∷ 120 ∷ 88 ∷ 116 ∷ 108 ∷ 105 ∷ 104 ∷ []) → body allow read b tag s ≡ fields (rowAt b tag (s .at)) s
+  body-row h r = body-rest (r .0) ∙ ap (λ (q : Row). fields q s) (row.other-leaf allow b tag (s .at) h (r .1))
+
   -- a row that ends is one of these
-  pub body-to : {e : ℕ} → rowAt b tag (s .at) ≡ To e → body read b tag s ≡ done (moved e s)
-  unfolding rowAt
+  pub body-to : {e : ℕ} → leafAt allow b tag (s .at) ≡ To e → body allow read b tag s ≡ done (moved e s)
+  unfolding leafAt rowAt
   body-to {e} h =
       body-rest (((((((((tt, not 104 refl), not 105 refl), not 108 refl), not 116 refl), not 88 refl), not 120 refl), not 90 refl), not 113 refl), not 112 refl) ∙ fields-to s h
     where
-      not : (n : ℕ) → rowAt b n (s .at) ≡ No number.Tag 0 → ¬ (tag ≡ n)
+      not : (n : ℕ) → leafAt allow b n (s .at) ≡ No number.Tag 0 → ¬ (tag ≡ n)
       not n q i =
-          let f : No number.Tag 0 ≡ To e = sym q ∙ ap (λ (t : ℕ). rowAt b t (s .at)) (sym i) ∙ h in
+          let f : No number.Tag 0 ≡ To e = sym q ∙ ap (λ (t : ℕ). leafAt allow b t (s .at)) (sym i) ∙ h in
           absurd (let z : _≡_ {A = ℕ} 0 1 = cc in omega arith)
 
 -- a term
-pub term-eof : (b : List ℕ) (limit rem : ℕ) (s u : State) → length b ≤ s .at → u ≡ reach s → term b limit rem s ≡ refused number.Eof u
+pub term-eof : (allow : Allowed) (b : List ℕ) (limit rem : ℕ) (s u : State) → length b ≤ s .at → u ≡ reach s → term allow b limit rem s ≡ refused number.Eof u
 unfolding term
-term-eof b limit zero s u h e = rw (e, le-ltb (s .at) (length b) h)
-term-eof b limit (suc r) s u h e = rw (e, le-ltb (s .at) (length b) h)
+term-eof allow b limit zero s u h e = rw (e, le-ltb (s .at) (length b) h)
+term-eof allow b limit (suc r) s u h e = rw (e, le-ltb (s .at) (length b) h)
 
-pub term-deep : (b : List ℕ) (limit rem : ℕ) (s u : State) → s .at < length b → rem ≡ 0 → u ≡ reach s → term b limit rem s ≡ refused number.Deep u
+pub term-deep : (allow : Allowed) (b : List ℕ) (limit rem : ℕ) (s u : State) → s .at < length b → rem ≡ 0 → u ≡ reach s → term allow b limit rem s ≡ refused number.Deep u
 unfolding term
-term-deep b limit rem s u h e k = rw (e, k, lt-ltb (s .at) (length b) h)
+term-deep allow b limit rem s u h e k = rw (e, k, lt-ltb (s .at) (length b) h)
 
-pub term-body : (b : List ℕ) (limit rem : ℕ) (s u : State) → s .at < length b → ¬ (rem ≡ 0) → u ≡ begin (limit - (rem - 1)) s →
-    term b limit rem s ≡ body (term b limit (rem - 1)) b (getD b (s .at) 0) u
+pub term-body : (allow : Allowed) (b : List ℕ) (limit rem : ℕ) (s u : State) → s .at < length b → ¬ (rem ≡ 0) → u ≡ begin (limit - (rem - 1)) s →
+    term allow b limit rem s ≡ body allow (term allow b limit (rem - 1)) b (getD b (s .at) 0) u
 unfolding term
-term-body b limit zero s u h k e = absurd (k refl)
-term-body b limit (suc r) s u h k e =
+term-body allow b limit zero s u h k e = absurd (k refl)
+term-body allow b limit (suc r) s u h k e =
     let d : suc r - 1 ≡ r = omega arith in
     rw (e, d, lt-ltb (s .at) (length b) h)
 
 -- a term without children whose row ends
-pub term-row : (b : List ℕ) (limit rem : ℕ) (s : State) {e : ℕ} → s .at < length b → ¬ (rem ≡ 0) → rowAt b (getD b (s .at) 0) (s .at + 1) ≡ To e →
-    term b limit rem s ≡ done (moved e (begin (limit - (rem - 1)) s))
-term-row b limit rem s h k r = term-body b limit rem s _ h k refl ∙ body-to _ _ _ _ r
+pub term-row : (allow : Allowed) (b : List ℕ) (limit rem : ℕ) (s : State) {e : ℕ} → s .at < length b → ¬ (rem ≡ 0) → leafAt allow b (getD b (s .at) 0) (s .at + 1) ≡ To e →
+    term allow b limit rem s ≡ done (moved e (begin (limit - (rem - 1)) s))
+term-row allow b limit rem s h k r = term-body allow b limit rem s _ h k refl ∙ body-to _ _ _ _ _ r
 
 -- a term that was read began within the input
-pub inside : (b : List ℕ) (limit rem : ℕ) (s u : State) → term b limit rem s ≡ done u → s .at < length b
-inside b limit rem s u e = by-test (ltb (s .at) (length b)) refl
+pub inside : (allow : Allowed) (b : List ℕ) (limit rem : ℕ) (s u : State) → term allow b limit rem s ≡ done u → s .at < length b
+inside allow b limit rem s u e = by-test (ltb (s .at) (length b)) refl
   where
     by-test : (x : Bool) → x ≡ ltb (s .at) (length b) → s .at < length b
     by-test true q = ltb-true (s .at) (length b) (sym q)
     by-test false q =
-        let p : refused number.Eof (reach s) ≡ done u = sym (term-eof b limit rem s (reach s) (ltb-false (s .at) (length b) (sym q)) refl) ∙ e in
+        let p : refused number.Eof (reach s) ≡ done u = sym (term-eof allow b limit rem s (reach s) (ltb-false (s .at) (length b) (sym q)) refl) ∙ e in
         let z : _≡_ {A = ℕ} 0 1 = cc in
         absurd (omega arith)

@@ -7,6 +7,7 @@ use native.Mathlib.Omega.{arith}
 use native.Mathlib.Nat.{le-trans, le-max-left, le-max-right, max-eq-left}
 use lib.ListN.{length}
 use borrow.Author.Tests.{lt-ltb}
+use Rattle.numbers.specs.Allowed.{Allowed}
 use Rattle.reading.specs.Reading.{State, done}
 use Rattle.reading.specs.Terms.{term}
 use Rattle.reading.proofs.Keeps.{Keeps, keeps-begun}
@@ -27,18 +28,18 @@ deep b limit d = record {
 }
 
 -- a term that is begun is as deep as it stands
-pub floor : (b : List ℕ) (limit rem : ℕ) (s t : State) → ¬ (rem ≡ 0) → term b limit rem s ≡ done t → limit + 1 - rem ≤ t .deepest
-floor b limit zero s t k e = absurd (k refl)
-floor b limit (suc r) s t k e =
+pub floor : (allow : Allowed) (b : List ℕ) (limit rem : ℕ) (s t : State) → ¬ (rem ≡ 0) → term allow b limit rem s ≡ done t → limit + 1 - rem ≤ t .deepest
+floor allow b limit zero s t k e = absurd (k refl)
+floor allow b limit (suc r) s t k e =
     let h : limit + 1 - suc r ≡ limit - r = omega arith in
-    let begun = keeps-begun (deep b limit (limit - r)) r s (λ l. (le-max-right (s .deepest) (limit - r), omega arith)) tt in
+    let begun = keeps-begun allow (deep b limit (limit - r)) r s (λ l. (le-max-right (s .deepest) (limit - r), omega arith)) tt in
     rw h ((rw e at begun) .0)
 
-pub raise : (b : List ℕ) (limit rem : ℕ) (s : State) → ¬ (rem ≡ 0) → s .at < length b →
-    term b limit rem s ≡ term b limit rem (record { at = s .at; last = s .last; begun = s .begun; deepest = max (s .deepest) (limit + 1 - rem) })
+pub raise : (allow : Allowed) (b : List ℕ) (limit rem : ℕ) (s : State) → ¬ (rem ≡ 0) → s .at < length b →
+    term allow b limit rem s ≡ term allow b limit rem (record { at = s .at; last = s .last; begun = s .begun; deepest = max (s .deepest) (limit + 1 - rem) })
 unfolding term
-raise b limit zero s k h = absurd (k refl)
-raise b limit (suc r) s k h =
+raise allow b limit zero s k h = absurd (k refl)
+raise allow b limit (suc r) s k h =
     let q : limit + 1 - suc r ≡ limit - r = omega arith in
     let m : max (max (s .deepest) (limit - r)) (limit - r) ≡ max (s .deepest) (limit - r) = max-eq-left (le-max-right (s .deepest) (limit - r)) in
     rw (q, m, lt-ltb (s .at) (length b) h)

@@ -9,6 +9,7 @@ use borrow.Author.Tests.{ltb-true}
 use lib.Dec.{ltb, eqb}
 use lib.ListN.{length, getD}
 use Rattle.numbers.specs.Caps as cap
+use Rattle.numbers.specs.Allowed.{Allowed}
 use Rattle.fields.specs.Field.{fieldAt}
 use Rattle.fields.specs.declared.Field.{Field}
 use Rattle.fields.specs.declared.Field.the-variants as field
@@ -16,7 +17,7 @@ use Rattle.fields.proofs.Laws.{is-whole}
 use Rattle.numbers.specs.Numbers as number
 use Rattle.numbers.specs.Numbers.{among, Listed}
 use Rattle.rows.specs.Row as row
-use Rattle.rows.specs.Layout.{rowAt}
+use Rattle.rows.specs.Layout.{leafAt}
 use Rattle.rows.specs.declared.Row.{Row}
 use Rattle.rows.specs.declared.Row.the-variants.{To, No}
 use Rattle.reading.specs.declared.Kind.{Kind}
@@ -27,7 +28,7 @@ use Rattle.reading.specs.Terms.{elems, pair, pairs, required, isAtom, is
 use Rattle.reading.specs.Terms.{smallTuple, largeTuple, list, map, pid, reference, export, captured, function, body, term}
 use Rattle.rows.proofs.Laws.{by-count, count-in, count-over, count-eof}
 use Rattle.reading.proofs.Families.{sized-is, sized-eof, counted-is, counted-no}
-use Rattle.rows.proofs.Ends.{Near, near-bytes, near-row}
+use Rattle.rows.proofs.Ends.{Near, near-bytes, near-leaf}
 
 -- what a required child is judged by
 pub data Judge : Type 0 where
@@ -41,7 +42,7 @@ fits (natural most) = isNatural most
 fits process = isPid
 
 -- two readings from a place, of a child (R) and of what stands behind a tag (S), over two lists: how S comes of R and of S
-pub record Alike (b c : List ℕ) (R S : State → Result → Result → Type 0) : Type 0 where
+pub record Alike (allow : Allowed) (b c : List ℕ) (R S : State → Result → Result → Type 0) : Type 0 where
   pub enters : (k : Kind) (i : ℕ) (s : State) (o q : Result) → R s o q → S s (entered k i o) (entered k i q)
   pub joins : (s : State) (o q : Result) (f g : State → Result) → S s o q → ((t : State) → S t (f t) (g t)) → S s (andThen o f) (andThen q g)
   pub judges : (j : Judge) (s : State) (f g : State → Result) → ((t : State) → R t (f t) (g t)) → S s (required f (fits j b) s) (required g (fits j c) s)
@@ -49,9 +50,9 @@ pub record Alike (b c : List ℕ) (R S : State → Result → Result → Type 0)
   pub caps : (most : ℕ) (s : State) (f g : ℕ → State → Result) → ((n : ℕ) (t : State) → S t (f n t) (g n t)) → S s (counted most b f s) (counted most c g s)
   pub counts : (k : ℕ) (s : State) (f g : ℕ → State → Result) → ((n : ℕ) (t : State) → S t (f n t) (g n t)) → S s (sized k b f s) (sized k c g s)
   pub passes : (n : ℕ) (s : State) → S s (pass b n s) (pass c n s)
-  pub leaves : (tag : ℕ) (s : State) → S s (fields (rowAt b tag (s .at)) s) (fields (rowAt c tag (s .at)) s)
+  pub leaves : (tag : ℕ) (s : State) → S s (fields (leafAt allow b tag (s .at)) s) (fields (leafAt allow c tag (s .at)) s)
 
-module _ {b c : List ℕ} {R S : State → Result → Result → Type 0} (a : Alike b c R S) (f g : State → Result) (kids : (s : State) → R s (f s) (g s)) where
+module _ {allow : Allowed} {b c : List ℕ} {R S : State → Result → Result → Type 0} (a : Alike allow b c R S) (f g : State → Result) (kids : (s : State) → R s (f s) (g s)) where
   picks : (x : Bool) (s : State) (o q u v : Result) → S s o q → S s u v → S s (cond x o u) (cond x q v)
   picks true s o q u v h k = h
   picks false s o q u v h k = k
@@ -78,7 +79,7 @@ module _ {b c : List ℕ} {R S : State → Result → Result → Type 0} (a : Al
       a .joins u _ _ _ _ (needs (natural 2147483647) u) (λ v.
       a .joins v _ _ _ _ (needs process v) (of-elems kind.Free 0 n))))
 
-  pub of-body : (tag : ℕ) (s : State) → S s (body f b tag s) (body g c tag s)
+  pub of-body : (tag : ℕ) (s : State) → S s (body allow f b tag s) (body allow g c tag s)
   unfolding body smallTuple largeTuple list map pid reference export function
   of-body tag s =
       picks (eqb tag 104) s _ _ _ _ (a .counts 1 s _ _ (of-elems kind.Tuple 0))
@@ -108,7 +109,7 @@ abbrev pub Held : (State → Type 0) → (ℕ → ℕ → List Segment → State
 Held P Q l (done t) = P t
 Held P Q l (no n x t p) = Q l n p t
 
-module _ {b : List ℕ} {limit : ℕ} {P : State → Type 0} {Q : ℕ → ℕ → List Segment → State → Type 0} (k : Keeps b limit P Q) where
+module _ (allow : Allowed) {b : List ℕ} {limit : ℕ} {P : State → Type 0} {Q : ℕ → ℕ → List Segment → State → Type 0} (k : Keeps b limit P Q) where
   abbrev From : ℕ → State → Result → Result → Type 0
   From l s o q = P s → Held P Q l o
 
@@ -151,7 +152,7 @@ module _ {b : List ℕ} {limit : ℕ} {P : State → Type 0} {Q : ℕ → ℕ �
       (λ n e i. rw (counted-no most b f s (count-over most b (s .at) e i)) (k .stops l number.Size s refl p))
       (λ e. rw (counted-no most b f s (count-eof most b (s .at) e)) (k .stops l number.Eof s refl p))
 
-  alike : (l : ℕ) → Alike b b (From l) (From (suc l))
+  alike : (l : ℕ) → Alike allow b b (From l) (From (suc l))
   unfolding pass required among
   alike l = record {
     enters = held-enters l;
@@ -161,21 +162,21 @@ module _ {b : List ℕ} {limit : ℕ} {P : State → Type 0} {Q : ℕ → ℕ �
     caps = held-caps (suc l);
     counts = held-counts (suc l);
     passes = λ n s p. held-fields (suc l) s (row.bytes b n (s .at)) (near-bytes b b n (s .at)) p;
-    leaves = λ tag s p. held-fields (suc l) s (rowAt b tag (s .at)) (near-row b b tag (s .at)) p;
+    leaves = λ tag s p. held-fields (suc l) s (leafAt allow b tag (s .at)) (near-leaf b b allow tag (s .at)) p;
   }
 
   -- a term that is begun keeps it, if its place behind the tag has it and the terms inside keep it
-  begun-by : (left : ℕ) → ((s : State) → P s → Held P Q left (term b limit left s)) → (s : State) → (s .at < length b → P (begin (limit - left) s)) → Q (suc left) number.Eof [] (reach s) →
-      Held P Q (suc left) (term b limit (suc left) s)
+  begun-by : (left : ℕ) → ((s : State) → P s → Held P Q left (term allow b limit left s)) → (s : State) → (s .at < length b → P (begin (limit - left) s)) → Q (suc left) number.Eof [] (reach s) →
+      Held P Q (suc left) (term allow b limit (suc left) s)
   unfolding term
   begun-by left h s p q =
       held-cond (suc left) (ltb (s .at) (length b)) _ _
-      (λ e. of-body (alike left) (term b limit left) (term b limit left) h (getD b (s .at) 0) (begin (limit - left) s) (p (ltb-true (s .at) (length b) e))) q
+      (λ e. of-body (alike left) (term allow b limit left) (term allow b limit left) h (getD b (s .at) 0) (begin (limit - left) s) (p (ltb-true (s .at) (length b) e))) q
 
-  pub keeps : (left : ℕ) (s : State) → P s → Held P Q left (term b limit left s)
+  pub keeps : (left : ℕ) (s : State) → P s → Held P Q left (term allow b limit left s)
   unfolding term among
   keeps zero s p = held-cond zero (ltb (s .at) (length b)) _ _ (λ e. k .reaches zero number.Deep s refl p) (k .reaches zero number.Eof s refl p)
   keeps (suc left) s p = begun-by left (keeps left) s (k .begins s (limit - left) (omega arith) p) (k .reaches (suc left) number.Eof s refl p)
 
-  pub keeps-begun : (left : ℕ) (s : State) → (s .at < length b → P (begin (limit - left) s)) → Q (suc left) number.Eof [] (reach s) → Held P Q (suc left) (term b limit (suc left) s)
+  pub keeps-begun : (left : ℕ) (s : State) → (s .at < length b → P (begin (limit - left) s)) → Q (suc left) number.Eof [] (reach s) → Held P Q (suc left) (term allow b limit (suc left) s)
   keeps-begun left = begun-by left (keeps left)

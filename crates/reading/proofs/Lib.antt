@@ -7,3 +7,4 @@ pub mod Outcomes
 pub mod Local
 pub mod Limits
 pub mod Examples
+pub mod Asked

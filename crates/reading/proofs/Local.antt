@@ -14,23 +14,24 @@ use Rattle.fields.specs.declared.Field.{Field}
 use Rattle.fields.specs.declared.Field.the-variants as field
 use Rattle.fields.proofs.Laws.{is-there, field-is, is-whole, number-of}
 use Rattle.numbers.specs.Numbers as number
+use Rattle.numbers.specs.Allowed.{Allowed}
 use Rattle.rows.specs.Row.{countAt}
 use Rattle.rows.specs.Row as row
 use Rattle.rows.specs.declared.Counted.{Counted}
 use Rattle.rows.specs.declared.Counted.the-variants as count
 use Rattle.rows.proofs.Laws.{count-in, count-is}
-use Rattle.rows.specs.Layout.{rowAt}
+use Rattle.rows.specs.Layout.{leafAt, rowAt}
 use Rattle.rows.specs.declared.Row.{Row}
 use Rattle.rows.specs.declared.Row.the-variants.{To, No}
 use Rattle.reading.specs.declared.Kind.{Kind}
 use Rattle.reading.specs.Reading.{State, Result, done, no, andThen, entered, moved, reach, begin, refused, fields, pass, sized, counted}
 use Rattle.reading.specs.Terms.{required, isAtom, isNatural, isPid, body, term}
-use Rattle.rows.proofs.Ends.{Agree, agree-less, agree-length, agree-byte, agree-field, Near, bytes-to, near-bytes, near-row}
+use Rattle.rows.proofs.Ends.{Agree, agree-less, agree-length, agree-byte, agree-field, Near, bytes-to, near-bytes, near-leaf}
 use Rattle.reading.proofs.Keeps.{Judge, atom, natural, process, fits, Alike, of-body}
 use Rattle.reading.proofs.Families.{sized-is, sized-eof, counted-is, counted-no}
 use Rattle.reading.proofs.Bounds.{started, ends}
 
-module _ (b c : List ℕ) where
+module _ (allow : Allowed) (b c : List ℕ) where
   -- reading from s that goes on from t goes on so over c, if the two lists agree up to t
   abbrev Beside : State → Result → Result → Type 0
   Beside s (done t) q = (s .at ≤ t .at) × (t .at ≤ length b) × (Agree b c (t .at) → q ≡ done t)
@@ -97,7 +98,7 @@ module _ (b c : List ℕ) where
           (λ a. counted-is most c g s (count-in most c (s .at) (agree-field 4 (s .at) a i) k)) (h n t (is-whole 4 b (s .at) i .0)))
       go (count.No n) e = rw (counted-no most b f s e) tt
 
-  alike : Alike b c Child From
+  alike : Alike allow b c Child From
   unfolding pass required
   alike = record {
     enters = enters;
@@ -107,7 +108,7 @@ module _ (b c : List ℕ) where
     caps = caps;
     counts = counts;
     passes = λ n s. reads s (row.bytes b n (s .at)) (row.bytes c n (s .at)) (near-bytes b c n (s .at));
-    leaves = λ tag s. reads s (rowAt b tag (s .at)) (rowAt c tag (s .at)) (near-row b c tag (s .at));
+    leaves = λ tag s. reads s (leafAt allow b tag (s .at)) (leafAt allow c tag (s .at)) (near-leaf b c allow tag (s .at));
   }
 
   -- what a child is judged by lies within it
@@ -137,8 +138,8 @@ module _ (b c : List ℕ) where
     same-fits process = rw (agree-byte a h)
 
   -- a term that is only so many bytes
-  plain : (tag k limit left : ℕ) (s t : State) → ((f : State → Result) (u : State) → body f b tag u ≡ pass b k u) → getD b (s .at) 0 ≡ tag →
-      term b limit (suc left) s ≡ done t → s .at + 1 + k ≤ t .at
+  plain : (tag k limit left : ℕ) (s t : State) → ((f : State → Result) (u : State) → body allow f b tag u ≡ pass b k u) → getD b (s .at) 0 ≡ tag →
+      term allow b limit (suc left) s ≡ done t → s .at + 1 + k ≤ t .at
   unfolding term pass fields
   plain tag k limit left s t h e d = go (ltb (s .at) (length b)) refl (row.bytes b k (s .at + 1)) refl
     where
@@ -148,28 +149,28 @@ module _ (b c : List ℕ) where
 
       go : (x : Bool) → ltb (s .at) (length b) ≡ x → (r : Row) → row.bytes b k (s .at + 1) ≡ r → s .at + 1 + k ≤ t .at
       go true f (To q) g =
-          let i : done (moved q (begin (limit - left) s)) ≡ done t = rw (f, e, h (term b limit left) (begin (limit - left) s), g) at d in
+          let i : done (moved q (begin (limit - left) s)) ≡ done t = rw (f, e, h (term allow b limit left) (begin (limit - left) s), g) at d in
           omega (arith, ap place i, bytes-to b k (s .at + 1) g)
       go true f (No m x) g =
-          let i : no m x (begin (limit - left) s) [] ≡ done t = rw (f, e, h (term b limit left) (begin (limit - left) s), g) at d in
+          let i : no m x (begin (limit - left) s) [] ≡ done t = rw (f, e, h (term allow b limit left) (begin (limit - left) s), g) at d in
           absurd (let z : _≡_ {A = ℕ} 0 1 = cc in omega arith)
-      go false f r g = absurd (omega (arith, started b limit (suc left) s t d, ltb-false (s .at) (length b) f))
+      go false f r g = absurd (omega (arith, started allow b limit (suc left) s t d, ltb-false (s .at) (length b) f))
 
-  judged : (limit left : ℕ) (s : State) → Judged s (term b limit (suc left) s)
-  unfolding body rowAt pass
-  judged limit left s = go (term b limit (suc left) s) refl
+  judged : (limit left : ℕ) (s : State) → Judged s (term allow b limit (suc left) s)
+  unfolding body leafAt rowAt pass
+  judged limit left s = go (term allow b limit (suc left) s) refl
     where
-      go : (o : Result) → term b limit (suc left) s ≡ o → Judged s o
+      go : (o : Result) → term allow b limit (suc left) s ≡ o → Judged s o
       go (done t) e = λ j a.
-          let (h, l) = ends b limit (suc left) s t e in
+          let (h, l) = ends allow b limit (suc left) s t e in
           same-fits (s .at) (t .at) h l a (λ f. plain 97 1 limit left s t (λ g u. refl) f e) (λ f. plain 98 4 limit left s t (λ g u. refl) f e) j
       go (no n x t p) e = tt
 
-  near : (limit left : ℕ) (s : State) → Child s (term b limit left s) (term c limit left s)
+  near : (limit left : ℕ) (s : State) → Child s (term allow b limit left s) (term allow c limit left s)
   unfolding term
   near limit zero s l = go (ltb (s .at) (length b))
     where
-      go : (x : Bool) → let o = cond x (refused number.Deep (reach s)) (refused number.Eof (reach s)) in Beside s o (term c limit zero s) × Judged s o
+      go : (x : Bool) → let o = cond x (refused number.Deep (reach s)) (refused number.Eof (reach s)) in Beside s o (term allow c limit zero s) × Judged s o
       go true = (tt, tt)
       go false = (tt, tt)
   near limit (suc left) s l = (go (near limit left) (ltb (s .at) (length b)) refl, judged limit left s)
@@ -177,23 +178,23 @@ module _ (b c : List ℕ) where
       u : State
       u = begin (limit - left) s
 
-      step : s .at < length b → Agree b c (s .at + 1) → term c limit (suc left) s ≡ body (term c limit left) c (getD b (s .at) 0) u
+      step : s .at < length b → Agree b c (s .at + 1) → term allow c limit (suc left) s ≡ body allow (term allow c limit left) c (getD b (s .at) 0) u
       step h a =
           let k : s .at < length c = omega (arith, agree-length a (omega arith)) in
           let e : getD b (s .at) 0 ≡ getD c (s .at) 0 = agree-byte a (omega arith) in
           rw (lt-ltb (s .at) (length c) k, e)
 
-      go : ((t : State) → Child t (term b limit left t) (term c limit left t)) → (x : Bool) → ltb (s .at) (length b) ≡ x →
-          Beside s (cond x (body (term b limit left) b (getD b (s .at) 0) u) (refused number.Eof (reach s))) (term c limit (suc left) s)
+      go : ((t : State) → Child t (term allow b limit left t) (term allow c limit left t)) → (x : Bool) → ltb (s .at) (length b) ≡ x →
+          Beside s (cond x (body allow (term allow b limit left) b (getD b (s .at) 0) u) (refused number.Eof (reach s))) (term allow c limit (suc left) s)
       go kids true e =
           let h = ltb-true (s .at) (length b) e in
-          later s u (body (term b limit left) b (getD b (s .at) 0) u) (body (term c limit left) c (getD b (s .at) 0) u) (term c limit (suc left) s) (omega arith) (step h)
-          (of-body alike (term b limit left) (term c limit left) kids (getD b (s .at) 0) u (omega arith))
+          later s u (body allow (term allow b limit left) b (getD b (s .at) 0) u) (body allow (term allow c limit left) c (getD b (s .at) 0) u) (term allow c limit (suc left) s) (omega arith) (step h)
+          (of-body alike (term allow b limit left) (term allow c limit left) kids (getD b (s .at) 0) u (omega arith))
       go kids false e = tt
 
 -- a reading that ends is unchanged by the bytes behind its end
-pub local : (b c : List ℕ) (limit left : ℕ) (s t : State) → term b limit left s ≡ done t → take (t .at) c ≡ take (t .at) b → term c limit left s ≡ done t
-local b c limit left s t e h =
-    let l = started b limit left s t e in
-    let n : Beside b c s (done t) (term c limit left s) = rw e at (near b c limit left s (omega arith) .0) in
+pub local : (allow : Allowed) (b c : List ℕ) (limit left : ℕ) (s t : State) → term allow b limit left s ≡ done t → take (t .at) c ≡ take (t .at) b → term allow c limit left s ≡ done t
+local allow b c limit left s t e h =
+    let l = started allow b limit left s t e in
+    let n : Beside allow b c s (done t) (term allow c limit left s) = rw e at (near allow b c limit left s (omega arith) .0) in
     n .2 (record { same = sym h })

@@ -6,6 +6,7 @@ use lib.ListN.{length, replicate}
 use lib.Dec.{ltb, eqb}
 use Rattle.numbers.specs.Numbers as number
 use Rattle.numbers.specs.Caps as cap
+use Rattle.numbers.specs.Allowed.{Allowed, plain}
 use Rattle.reading.specs.declared.Answer.{Answer}
 use Rattle.reading.specs.declared.Cause.{Cause}
 use Rattle.reading.specs.declared.Cause.the-variants as cause
@@ -61,6 +62,10 @@ abbrev pub started : Start → Answer → Answer
 started (start.No c) a = early (numberOf c)
 started start.Reads a = a
 
--- reading the term at a place: its nesting is 1
-unfoldable pub readAt : List ℕ → ℕ → ℕ → Answer
-readAt b at limit = started (starts limit (length b)) (answer (term b limit limit (record { at = at; last = 0; begun = 0; deepest = 0 })))
+-- reading the term at a place, over what is allowed: its nesting is 1
+unfoldable pub readBy : Allowed → List ℕ → ℕ → ℕ → Answer
+readBy allow b at limit = started (starts limit (length b)) (answer (term allow b limit limit (record { at = at; last = 0; begun = 0; deepest = 0 })))
+
+-- document 01's own
+abbrev pub readAt : List ℕ → ℕ → ℕ → Answer
+readAt = readBy plain

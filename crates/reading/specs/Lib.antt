@@ -1,3 +1,4 @@
 pub mod Reading
 pub mod Terms
 pub mod Answer
+pub mod Asked

@@ -1,5 +1,5 @@
--- The definition of reading a term: document 01's layouts and steps, one clause for each row. What stands behind a child is read by
--- `read`, which is `term` with one level of nesting less.
+-- The definition of reading a term: document 01's layouts and steps, one clause for each row, over what is allowed. What stands behind a
+-- child is read by `read`, which is `term` with one level of nesting less.
 use Prim.Native.Nat.{ℕ, zero, suc, _+_, _-_, _*_}
 use mathlib.Core.List.{List}
 use mathlib.Core.Bool.{Bool, false, cond, _||_}
@@ -8,7 +8,8 @@ use lib.ListN.{length, getD}
 use Rattle.fields.specs.Field.{numberAt}
 use Rattle.numbers.specs.Numbers as number
 use Rattle.numbers.specs.Caps as cap
-use Rattle.rows.specs.Layout.{rowAt}
+use Rattle.numbers.specs.Allowed.{Allowed}
+use Rattle.rows.specs.Layout.{leafAt}
 use Rattle.reading.specs.declared.Kind.{Kind}
 use Rattle.reading.specs.declared.Kind.the-variants as kind
 use Rattle.reading.specs.Reading.{State, Result, done, andThen, entered, reach, begin, refused, fields, pass, sized, counted}
@@ -30,9 +31,9 @@ pairs read (suc n) s = andThen (pair read s) (pairs read n)
 unfoldable pub required : (State → Result) → (ℕ → Bool) → State → Result
 required read fits s = andThen (read s) (λ t. cond (fits (s .at)) (done t) (refused number.Tag t))
 
--- "An atom child has tag 100, 118 or 119"
+-- "An atom child has tag 100, 118 or 119"; a child that was read and has tag 82 "counts as an atom child" (document 02, P3)
 unfoldable pub isAtom : List ℕ → ℕ → Bool
-isAtom b p = eqb (getD b p 0) 100 || (eqb (getD b p 0) 118 || eqb (getD b p 0) 119)
+isAtom b p = eqb (getD b p 0) 100 || (eqb (getD b p 0) 118 || (eqb (getD b p 0) 119 || eqb (getD b p 0) 82))
 
 -- "an integer child 97 or 98", from 0 to `most`: a negative one spells 2 ^ 31 or more, above every `most` (`signed-natural`, fields/proofs/Laws.antt)
 unfoldable pub isNatural : ℕ → List ℕ → ℕ → Bool
@@ -85,23 +86,23 @@ module _ (read : State → Result) (b : List ℕ) where
   unfoldable pub function : State → Result
   function s = andThen (pass b 25 s) (sized 4 b captured)
 
-  -- what stands behind a tag
-  unfoldable pub body : ℕ → State → Result
-  body tag s =
-      cond (eqb tag 104) (smallTuple s)
-      (cond (eqb tag 105) (largeTuple s)
-      (cond (eqb tag 108) (list s)
-      (cond (eqb tag 116) (map s)
-      (cond (eqb tag 88 || eqb tag 120) (pid s)
-      (cond (eqb tag 90) (reference s)
-      (cond (eqb tag 113) (export s)
-      (cond (eqb tag 112) (function s)
-      (fields (rowAt b tag (s .at)) s))))))))
+-- what stands behind a tag
+unfoldable pub body : Allowed → (State → Result) → List ℕ → ℕ → State → Result
+body allow read b tag s =
+    cond (eqb tag 104) (smallTuple read b s)
+    (cond (eqb tag 105) (largeTuple read b s)
+    (cond (eqb tag 108) (list read b s)
+    (cond (eqb tag 116) (map read b s)
+    (cond (eqb tag 88 || eqb tag 120) (pid read b s)
+    (cond (eqb tag 90) (reference read b s)
+    (cond (eqb tag 113) (export read b s)
+    (cond (eqb tag 112) (function read b s)
+    (fields (leafAt allow b tag (s .at)) s))))))))
 
 -- "no byte left, Eof; nesting over the limit, Deep; else the term is begun". `left` levels of nesting are left of `limit`
-unfoldable pub term : List ℕ → ℕ → ℕ → State → Result
-term b limit zero s = cond (ltb (s .at) (length b)) (refused number.Deep (reach s)) (refused number.Eof (reach s))
-term b limit (suc left) s =
+unfoldable pub term : Allowed → List ℕ → ℕ → ℕ → State → Result
+term allow b limit zero s = cond (ltb (s .at) (length b)) (refused number.Deep (reach s)) (refused number.Eof (reach s))
+term allow b limit (suc left) s =
     cond (ltb (s .at) (length b))
-    (body (term b limit left) b (getD b (s .at) 0) (begin (limit - left) s))
+    (body allow (term allow b limit left) b (getD b (s .at) 0) (begin (limit - left) s))
     (refused number.Eof (reach s))

@@ -9,6 +9,7 @@ ghost use mathlib.Core.List.{[]};
 ghost use Prim.Native.Nat.{_<_};
 ghost use Rattle.reading.specs.Terms as terms;
 ghost use Rattle.reading.specs.Answer as def;
+ghost use Rattle.reading.specs.Asked.{plainly};
 
 // What a segment of a path is of.
 pub enum Kind {
@@ -112,6 +113,7 @@ pub fn is_atom(b: &[u8], at: usize) -> bool
         100 => true,
         118 => true,
         119 => true,
+        82 => true,
         _ => false,
     }
 }
@@ -151,4 +153,15 @@ pub fn starts(limit: usize, len: usize) -> Start
         return Start::No(Cause::Long);
     }
     Start::Reads
+}
+
+// What is asked of a reader, in six words (specs/Asked.antt): the places of two of them, and plain reading, so deep.
+pub const NAMES: usize = 4;
+
+pub const LIMIT: usize = 5;
+
+pub fn plainly(limit: usize) -> [usize; 6]
+    ensures { λ r. ⌜ r ≡ plainly limit ⌝ }
+{
+    [0, 0, 0, 0, 0, limit]
 }

@@ -30,7 +30,7 @@ module _ (b : List ℕ) (P : Reference → Type 0) (place : (new : Bool) (wide p
   has-behind p next (ref.New slot at n) h k = more h (k (at + n))
   has-behind p next (ref.No n x) h k = more h none
 
-  has-references : (wide i k p : ℕ) → Has (references b wide i k p)
+  pub has-references : (wide i k p : ℕ) → Has (references b wide i k p)
   unfolding references
   has-references wide i zero p = none
   has-references wide i (suc k) p = has-behind p _ _ (place (isNew b i) wide p) (has-references wide (i + 1) k)
@@ -63,6 +63,9 @@ module _ (b : List ℕ) where
 
     pub all-fit : All Fits (headerOf b .references)
     all-fit = every b Fits fits-at (λ n x h. refusal)
+
+  pub some-fine : (wide i k p : ℕ) → All Fine (references b wide i k p .references)
+  some-fine = has-references b Fine (of-reference b) (λ n x h. h)
 
   pub all-fine : All Fine (headerOf b .references)
   all-fine = every b Fine (of-reference b) (λ n x h. h)

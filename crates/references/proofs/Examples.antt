@@ -1,6 +1,7 @@
 -- Headers that tell a right function from a wrong one, as the definitions compute them; document 01's are among them. Assumes nothing.
 use Prim.Native.Nat.{ℕ}
 use mathlib.Core.Path.{_≡_, refl}
+use mathlib.Core.Bool.{true, false}
 use mathlib.Core.List.{List, [], _∷_, _++_}
 use lib.ListN.{replicate}
 use Rattle.fields.specs.Be.{be, beAt}
@@ -11,7 +12,7 @@ use Rattle.numbers.specs.Numbers as number
 use Rattle.rows.specs.Row as row
 use Rattle.references.specs.declared.Reference.{Reference}
 use Rattle.references.specs.declared.Reference.the-variants as ref
-use Rattle.references.specs.Header.{Said, refused, halfOf, halfByte, newIn, isNew, segment, longBit, flagged, startOf, named, newAt, referenceAt, behind, references, opened, headerOf, slotsOf}
+use Rattle.references.specs.Header.{Said, refused, halfOf, halfByte, newIn, isNew, segment, oneSegment, longBit, flagged, startOf, named, newAt, referenceAt, behind, references, opened, headerOf, slotsOf}
 
 -- what a header says, where all is well, and where it is refused behind some references
 abbrev done : List Reference → ℕ → Said
@@ -56,6 +57,12 @@ pub record Examples : Type 0 where
   pub ignored : headerOf (131 ∷ 68 ∷ 2 ∷ 94 ∷ 0 ∷ 5 ∷ 1 ∷ 97 ∷ 6 ∷ []) ≡ headerOf (131 ∷ 68 ∷ 2 ∷ 8 ∷ 0 ∷ 5 ∷ 1 ∷ 97 ∷ 6 ∷ [])
   pub first-segment : segment (131 ∷ 68 ∷ 2 ∷ 94 ∷ []) 0 ≡ 6
   pub second-segment : segment (131 ∷ 68 ∷ 2 ∷ 94 ∷ []) 1 ≡ 5
+  -- segment numbers that are all 0, whatever the half byte after the last reference is, of an odd count and of an even one; and one that isn't, of an
+  -- old reference, of which the bit worth 8 is not set, and of the last
+  pub odd-zero : oneSegment (131 ∷ 68 ∷ 1 ∷ 248 ∷ []) 1 ≡ true
+  pub even-zero : oneSegment (131 ∷ 68 ∷ 2 ∷ 8 ∷ 255 ∷ []) 2 ≡ true
+  pub old-other : oneSegment (131 ∷ 68 ∷ 2 ∷ 17 ∷ 0 ∷ []) 1 ≡ false
+  pub last-other : oneSegment (131 ∷ 68 ∷ 2 ∷ 64 ∷ 0 ∷ []) 2 ≡ false
   -- the slots of all references, old ones too, up to a refusal
   pub slots : slotsOf (headerOf (131 ∷ 68 ∷ 2 ∷ 128 ∷ 0 ∷ 6 ∷ 5 ∷ 1 ∷ 97 ∷ []) .references) ≡ 6 ∷ 5 ∷ []
   pub some-slots : slotsOf (headerOf (131 ∷ 68 ∷ 2 ∷ 128 ∷ 0 ∷ 6 ∷ 5 ∷ 1 ∷ []) .references) ≡ 6 ∷ []
@@ -72,7 +79,7 @@ pub record Examples : Type 0 where
   pub kind : headerOf (131 ∷ 69 ∷ []) ≡ refused number.Kind 69
 
 pub examples : Examples
-unfolding headerOf opened startOf flagged references behind referenceAt newAt named longBit isNew newIn segment halfByte halfOf slotsOf byteThen numberThen row.name row.bytes holds fieldAt beAt be goodBytes goodFrom charBytes decode scalar encode starts
+unfolding headerOf opened startOf flagged references behind referenceAt newAt named longBit isNew newIn segment oneSegment halfByte halfOf slotsOf byteThen numberThen row.name row.bytes holds fieldAt beAt be goodBytes goodFrom charBytes decode scalar encode starts
 examples = record {
   one = refl;
   odd = refl;
@@ -87,6 +94,10 @@ examples = record {
   ignored = refl;
   first-segment = refl;
   second-segment = refl;
+  odd-zero = refl;
+  even-zero = refl;
+  old-other = refl;
+  last-other = refl;
   slots = refl;
   some-slots = refl;
   text = refl;

@@ -2,5 +2,7 @@ pub mod Reading
 pub mod Every
 pub mod Halves
 pub mod Segments
+pub mod OneSegment
+pub mod Local
 pub mod Outcomes
 pub mod Examples

@@ -1,7 +1,7 @@
 -- Laws of how a header begins and of a reference, one for each way that specs/Header.antt can go. Assumes nothing.
 use Prim.Native.Nat.{ℕ, _+_, _/_, _%_, _≤_, _<_}
 use native.Mathlib.Omega.{arith}
-use mathlib.Core.Path.{_≡_, refl, sym, _∙_}
+use mathlib.Core.Path.{_≡_, refl, sym, subst, _∙_}
 use mathlib.Core.List.{List}
 use mathlib.Core.Bool.{Bool, true, false}
 use borrow.Author.Tests.{eq-eqb, ne-eqb, lt-ltb, le-ltb}
@@ -11,13 +11,14 @@ use Rattle.numbers.specs.Numbers as number
 use Rattle.fields.specs.Field.{holds, fieldAt, numberThen, byteThen}
 use Rattle.fields.specs.declared.Field.{Field}
 use Rattle.fields.specs.declared.Field.the-variants as field
-use Rattle.fields.proofs.Laws.{is-whole, byte-is, byte-eof, expect-eof, expect-is, expect-other}
+use Rattle.fields.proofs.Laws.{is-whole, by-then, byte-is, byte-eof, expect-eof, expect-is, expect-other}
 use Rattle.rows.specs.Row as row
 use Rattle.rows.specs.declared.Row.{Row}
 use Rattle.rows.specs.declared.Row.the-variants.{To, No}
 use Rattle.rows.proofs.Laws.{name-to}
 use Rattle.references.specs.declared.Opening.{Opening}
 use Rattle.references.specs.declared.Opening.the-variants as opening
+use Rattle.references.specs.declared.Reference.{Reference}
 use Rattle.references.specs.declared.Reference.the-variants as ref
 use Rattle.references.specs.Header.{flagsAt, halfOf, longBit, flagged, startOf, named, newAt, referenceAt}
 
@@ -46,62 +47,80 @@ module _ (b : List ℕ) (new : Bool) (wide p : ℕ) where
     unfolding referenceAt
     new-is e = sym (byte-is _ b _ p h ∙ rw e)
 
--- a new name lies in the input, behind its slot, which is the byte that stands first
-pub record FoundName (b : List ℕ) (p slot at n : ℕ) : Type 0 where
+-- a new name lies in the input, behind its slot, which is the byte that stands first, and its length of `wide` bytes
+pub record FoundName (b : List ℕ) (new : Bool) (wide p slot at n : ℕ) : Type 0 where
+  pub flag : new ≡ true
   pub first : fieldAt 1 b p ≡ field.Is slot
-  pub after : p < at
+  pub size : fieldAt wide b (p + 1) ≡ field.Is n
+  pub place : at ≡ p + 1 + wide
   pub inside : at + n ≤ length b
 
 not-found : {P : Type 0} {x y slot at n : ℕ} → ref.No x y ≡ ref.New slot at n → P
 not-found e = absurd (let z : _≡_ {A = ℕ} 0 1 = cc in omega arith)
 
--- the same, behind the slot s and its length
-abbrev Named : List ℕ → (s p slot at n : ℕ) → Type 0
-Named b s p slot at n = (s ≡ slot) × (p ≤ at) × (at + n ≤ length b)
+-- the name alone, of m bytes at p, in the slot s
+abbrev Named : List ℕ → (s m p slot at n : ℕ) → Type 0
+Named b s m p slot at n = (s ≡ slot) × (m ≡ n) × (at ≡ p) × (at + n ≤ length b)
 
-named-found : (b : List ℕ) (s m p : ℕ) {slot at n : ℕ} → named b s m p ≡ ref.New slot at n → Named b s p slot at n
+named-found : (b : List ℕ) (s m p : ℕ) {slot at n : ℕ} → named b s m p ≡ ref.New slot at n → Named b s m p slot at n
 unfolding named
 named-found b s m p {slot} {at} {n} e = go (row.name b m p) refl
   where
-    go : (r : Row) → row.name b m p ≡ r → Named b s p slot at n
+    go : (r : Row) → row.name b m p ≡ r → Named b s m p slot at n
     go (To q) h =
         let f : ref.New s p m ≡ ref.New slot at n = rw h at e in
-        let i : s ≡ slot = cc in
-        let j : at ≡ p = cc in
-        let k : n ≡ m = cc in
-        (i, omega arith, omega (arith, name-to b m p h .1))
+        let i : at ≡ p = cc in
+        let j : m ≡ n = cc in
+        ((cc), j, i, omega (arith, name-to b m p h .1))
     go (No y d) h = not-found {x = y} {y = d} (rw h at e)
 
-new-found : (b : List ℕ) (wide s p : ℕ) {slot at n : ℕ} → newAt b wide s p ≡ ref.New slot at n → Named b s p slot at n
-unfolding newAt numberThen
-new-found b wide s p {slot} {at} {n} e = go (fieldAt wide b p) refl
+pub found : (b : List ℕ) (new : Bool) (wide p : ℕ) {slot at n : ℕ} → referenceAt b new wide p ≡ ref.New slot at n → FoundName b new wide p slot at n
+unfolding referenceAt newAt numberThen
+found b new wide p {slot} {at} {n} e = go (fieldAt 1 b p) refl new refl (fieldAt wide b (p + 1)) refl
   where
-    go : (f : Field) → fieldAt wide b p ≡ f → Named b s p slot at n
-    go (field.Is m) h = let (i, j, k) = named-found b s m (p + wide) (rw h at e) in (i, omega arith, k)
-    go field.Eof h = not-found {x = number.Eof} {y = 0} (rw h at e)
-
-pub found : (b : List ℕ) (new : Bool) (wide p : ℕ) {slot at n : ℕ} → referenceAt b new wide p ≡ ref.New slot at n → FoundName b p slot at n
-unfolding referenceAt numberThen
-found b new wide p {slot} {at} {n} e = go (fieldAt 1 b p) refl new refl
-  where
-    go : (f : Field) → fieldAt 1 b p ≡ f → (t : Bool) → new ≡ t → FoundName b p slot at n
-    go (field.Is m) h true k =
-        let (s, i, j) = new-found b wide m (p + 1) (rw (h, k) at e) in
-        record { first = h ∙ rw s; after = omega arith; inside = j }
-    go (field.Is m) h false k =
+    go : (f : Field) → fieldAt 1 b p ≡ f → (t : Bool) → new ≡ t → (g : Field) → fieldAt wide b (p + 1) ≡ g → FoundName b new wide p slot at n
+    go (field.Is m) h true k (field.Is l) g =
+        let (s, i, j, inside) = named-found b m l (p + 1 + wide) (rw (h, k, g) at e) in
+        record { flag = k; first = h ∙ rw s; size = g ∙ rw i; place = j; inside = inside }
+    go (field.Is m) h true k field.Eof g = not-found {x = number.Eof} {y = 0} (rw (h, k, g) at e)
+    go (field.Is m) h false k y g =
         let f : ref.Old m ≡ ref.New slot at n = rw (h, k) at e in
         absurd (let z : _≡_ {A = ℕ} 0 1 = cc in omega arith)
-    go field.Eof h t k = not-found {x = number.Eof} {y = 0} (rw h at e)
+    go field.Eof h t k y g = not-found {x = number.Eof} {y = 0} (rw h at e)
+
+-- an old one's slot is the byte that stands there
+abbrev Old : List ℕ → Bool → ℕ → Reference → Type 0
+Old b new p (ref.Old slot) = (new ≡ false) × (fieldAt 1 b p ≡ field.Is slot)
+Old b new p (ref.New slot at n) = Unit {0}
+Old b new p (ref.No n x) = Unit {0}
+
+named-old : (b : List ℕ) (new : Bool) (q s m p : ℕ) → Old b new q (named b s m p)
+unfolding named
+named-old b new q s m p = go (row.name b m p) refl
+  where
+    go : (r : Row) → row.name b m p ≡ r → Old b new q (named b s m p)
+    go (To e) h = rw h tt
+    go (No x e) h = rw h tt
+
+new-old : (b : List ℕ) (new : Bool) (q wide s p : ℕ) → Old b new q (newAt b wide s p)
+unfolding newAt
+new-old b new q wide s p = by-then wide b p _ _ (Old b new q) tt (λ n. named-old b new q s n (p + wide))
+
+reference-old : (b : List ℕ) (new : Bool) (wide p : ℕ) → Old b new p (referenceAt b new wide p)
+unfolding referenceAt numberThen
+reference-old b new wide p = go (fieldAt 1 b p) refl new
+  where
+    go : (f : Field) → fieldAt 1 b p ≡ f → (t : Bool) → Old b t p (referenceAt b t wide p)
+    go (field.Is m) h true = rw h (new-old b true p wide m (p + 1))
+    go (field.Is m) h false = rw h (refl, h)
+    go field.Eof h t = rw h tt
+
+pub found-old : (b : List ℕ) (new : Bool) (wide p : ℕ) {slot : ℕ} → referenceAt b new wide p ≡ ref.Old slot →
+    (new ≡ false) × (fieldAt 1 b p ≡ field.Is slot)
+found-old b new wide p e = subst (Old b new p) e (reference-old b new wide p)
 
 pub old-there : (b : List ℕ) (new : Bool) (wide p : ℕ) {slot : ℕ} → referenceAt b new wide p ≡ ref.Old slot → p < length b
-unfolding referenceAt numberThen
-old-there b new wide p {slot} e = go (fieldAt 1 b p) refl
-  where
-    go : (f : Field) → fieldAt 1 b p ≡ f → p < length b
-    go (field.Is m) h = omega (arith, is-whole 1 b p h .0)
-    go field.Eof h =
-        let f : ref.No number.Eof 0 ≡ ref.Old slot = rw h at e in
-        absurd (let z : _≡_ {A = ℕ} 0 1 = cc in omega arith)
+old-there b new wide p e = omega (arith, is-whole 1 b p (found-old b new wide p e .1) .0)
 
 -- half byte i within its byte
 module _ (flag i : ℕ) where

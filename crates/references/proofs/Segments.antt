@@ -81,7 +81,7 @@ module _ (b c : List ℕ) (alike : Alike b c) where
     where
       go : (r : Reference) → referenceAt b new wide p ≡ r → behind p f r ≡ behind p g r
       go (ref.Old slot) e = ap (passed (ref.Old slot)) (k (p + 1) (omega arith))
-      go (ref.New slot at n) e = ap (passed (ref.New slot at n)) (k (at + n) (omega (arith, found b new wide p e .after)))
+      go (ref.New slot at n) e = ap (passed (ref.New slot at n)) (k (at + n) (omega (arith, found b new wide p e .place)))
       go (ref.No n x) e = refl
 
   references-same : (wide i k p : ℕ) → i + k ≤ count b → flagsEnd b ≤ p → references b wide i k p ≡ references c wide i k p

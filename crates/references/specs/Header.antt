@@ -1,7 +1,7 @@
--- The atom header: what its bytes say, of themselves and of no cache. Document 01, "Name cache", and document 02, P2.
+-- The atom header: what its bytes say, of themselves and of no cache. Document 01, "Name cache", and document 02, P2 and P3.
 use Prim.Native.Nat.{ℕ, zero, suc, _+_, _/_, _%_}
 use mathlib.Core.List.{List, [], _∷_}
-use mathlib.Core.Bool.{Bool, false, cond}
+use mathlib.Core.Bool.{Bool, true, false, cond, _&&_}
 use lib.Dec.{eqb, ltb}
 use lib.ListN.{length, getD}
 use Rattle.numbers.specs.Caps as cap
@@ -36,6 +36,11 @@ isNew b i = newIn (getD b (flagsAt + i / 2) 0) i
 -- the three bits below are its segment number. "The segment bits are ignored."
 unfoldable pub segment : List ℕ → ℕ → ℕ
 segment b i = halfByte b i % 8
+
+-- document 02, P3: "18 Segment where a segment number is not 0". Whether those of the first n references, old ones too, are all 0
+unfoldable pub oneSegment : List ℕ → ℕ → Bool
+oneSegment b zero = true
+oneSegment b (suc n) = oneSegment b n && eqb (segment b n) 0
 
 -- "ETF puts the long-length bit in the half byte after the last reference", of n: lengths have 2 bytes where its bit worth 1 is set, else 1 byte
 unfoldable pub longBit : List ℕ → ℕ → Bool

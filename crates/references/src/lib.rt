@@ -75,6 +75,25 @@ pub fn is_new(flag: u8, i: usize) -> bool
     half(flag, i) / 8 % 2 == 1
 }
 
+// Whether the first n references, old ones too, all have segment number 0: the three low bits of each half byte. The half byte after the last
+// is not looked at, and a flag byte that isn't there counts as 0.
+pub fn one_segment(b: &[u8], n: usize) -> bool
+    ensures { λ r. ⌜ r ≡ said.oneSegment (now (b .entry)) n ⌝ }
+{
+    let mut i = 0;
+    while i < n {
+        let at = FLAGS + i / 2;
+        if b.len() <= at {
+            return true;
+        }
+        if half(b[at], i) % 8 != 0 {
+            return false;
+        }
+        i += 1;
+    }
+    true
+}
+
 // Half byte i of the flags, within its byte: the low half first.
 fn half(flag: u8, i: usize) -> u8
     ensures { λ r. ⌜ r ≡ said.halfOf flag i ⌝ }

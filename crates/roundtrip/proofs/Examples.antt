@@ -6,6 +6,7 @@ use mathlib.Core.Path.{_≡_, refl}
 use mathlib.Core.List.{List, [], _∷_, flatMap}
 use lib.IntN.{pos, negsuc}
 use lib.ListN.{length}
+use Rattle.numbers.specs.Allowed.{plain}
 use Rattle.fields.specs.Be.{be, le, bytesOf, digitsOf, signed}
 use Rattle.layouts.specs.Tree.{Tree, leaf, bytes, size}
 use Rattle.layouts.specs.Layout as layout
@@ -15,7 +16,8 @@ use Rattle.layouts.specs.Values.{bySign, bigInteger}
 use Rattle.reading.specs.declared.Answer.{Answer}
 use Rattle.tape.specs.Cells.{words, taped}
 use Rattle.tape.specs.Inner.Fill.{wordsAll}
-use Rattle.tape.specs.Read.{Promised}
+use Rattle.tape.specs.Read.{Recorded}
+use Rattle.tape.proofs.Records.{written as wrote}
 use Rattle.measure.specs.Item.{Item, integer, atom, tuple, list, nil, kidsOf}
 use Rattle.measure.specs.Term.{first, behind, ended, big, integerTree, treeOf, treesOf, written}
 use Rattle.roundtrip.specs.Told.{said, frontLength, isTail, itemAt, told}
@@ -49,13 +51,13 @@ unfolding written treesOf first behind ended treeOf kidsOf bytesOf bytes size wo
 nils-back = (refl, refl)
 
 -- bytes that are a term's return what is told of that term's tape
-returned : {s : List Item} {limit : ℕ} {r : Answer} {old new : List ℕ} (t : Tree) → Laid t → Promised (131 ∷ bytes t) limit r old new → Returns (131 ∷ bytes t) s r new →
-    told (131 ∷ bytes t) (taped t old) (length s + tails s) ≡ s
-returned t l p h = rw (p .done (h .done) t l refl, h .cells) at (h .items)
+returned : {s : List Item} {limit : ℕ} {r : Answer} {old new : List ℕ} (t : Tree) → Laid plain t → Recorded (131 ∷ bytes t) limit r old new → Returns (131 ∷ bytes t) s r new →
+    told (131 ∷ bytes t) (taped 1 t old) (length s + tails s) ≡ s
+returned t l p h = rw (wrote p (h .done) t l refl, h .cells) at (h .items)
 
 module _ {limit : ℕ} {r : Answer} {old new : List ℕ} where
   -- -1 as the byte 255: that is 255
-  pub unsigned : Promised (131 ∷ 97 ∷ 255 ∷ []) limit r old new → ¬ Returns (131 ∷ 97 ∷ 255 ∷ []) (integer (negsuc 0) ∷ []) r new
+  pub unsigned : Recorded (131 ∷ 97 ∷ 255 ∷ []) limit r old new → ¬ Returns (131 ∷ 97 ∷ 255 ∷ []) (integer (negsuc 0) ∷ []) r new
   unfolding bytes nodes flatMap words taped tails tailsOf told isTail itemAt said frontLength be
   unsigned p h =
       let e : integer (pos 255) ∷ [] ≡ integer (negsuc 0) ∷ [] = returned (leaf 97 (255 ∷ [])) (row (layout.small-integer refl)) p h in
@@ -63,7 +65,7 @@ module _ {limit : ℕ} {r : Answer} {old new : List ℕ} where
       omega arith
 
   -- an empty list as a Nil alone: that is a Nil
-  pub no-list : Promised (131 ∷ 106 ∷ []) limit r old new → ¬ Returns (131 ∷ 106 ∷ []) (list 0 ∷ []) r new
+  pub no-list : Recorded (131 ∷ 106 ∷ []) limit r old new → ¬ Returns (131 ∷ 106 ∷ []) (list 0 ∷ []) r new
   unfolding bytes nodes flatMap words taped tails tailsOf told isTail itemAt said frontLength be
   no-list p h =
       let e = returned (leaf 106 []) (row layout.nil) p h in

@@ -10,9 +10,10 @@ use lib.ListN.{length, take}
 use Rattle.numbers.specs.Numbers as number
 use Rattle.layouts.specs.Tree.{Tree, node, none, more, size, sizes, depth, depths}
 use Rattle.reading.specs.declared.Answer.{Answer}
-use Rattle.tape.specs.Read.{Promised}
+use Rattle.tape.specs.Read.{Recorded}
 use Rattle.tape.proofs.Reading.{behind-131}
-use Rattle.tape.proofs.Accepts.{complete, at-front}
+use Rattle.tape.proofs.Accepts.{at-front}
+use Rattle.tape.proofs.Records.{complete, written as wrote}
 use Rattle.measure.specs.Item.{Item}
 use Rattle.measure.specs.Term.{written, accepted}
 use Rattle.measure.proofs.Laid as measure
@@ -29,7 +30,7 @@ unfolding depth
 one-deep (node tag front ts back) = omega arith
 
 -- "What is written, read back with enough cells and limit, gives the same items in order, tail Nils left out and a tag 110 taken as its number"
-pub returns : {s : List Item} {limit : ℕ} {r : Answer} {old new : List ℕ} → accepted s ≡ true → Enough s limit (length old) → Promised (written s) limit r old new →
+pub returns : {s : List Item} {limit : ℕ} {r : Answer} {old new : List ℕ} → accepted s ≡ true → Enough s limit (length old) → Recorded (written s) limit r old new →
     Returns (written s) s r new
 unfolding depths sizes
 returns {s} {limit} {r} {old} {new} e h p =
@@ -45,12 +46,12 @@ returns {s} {limit} {r} {old} {new} e h p =
     record {
       done = done;
       cells = omega arith;
-      items = rw begun (whole (written s) new says (at-front t old (p .done done t (w .laid) (w .is))) (behind-131 t (w .is)));
+      items = rw begun (whole (written s) new says (at-front 1 t old (wrote p done t (w .laid) (w .is))) (behind-131 t (w .is)));
     }
 
 -- the same of a write that was Done: the bytes that it says it wrote, the front of what was lent, return the row
 pub round-trip : (s : List Item) (lent : List ℕ) → writeOver s lent .answer .number ≡ number.Done → {limit : ℕ} {r : Answer} {old new : List ℕ} → Enough s limit (length old) →
-    Promised (take (writeOver s lent .answer .len) (writeOver s lent .bytes)) limit r old new →
+    Recorded (take (writeOver s lent .answer .len) (writeOver s lent .bytes)) limit r old new →
     Returns (take (writeOver s lent .answer .len) (writeOver s lent .bytes)) s r new
 round-trip s lent e h p =
     let (a, b) = done-writes s lent e in

@@ -10,6 +10,7 @@ use lib.Dec.{leb, eqb}
 use lib.ListN.{length, getD, take, drop, length-take}
 use lib.Seq.{take-take, take-nil, drop-nil, getD-take}
 use Rattle.numbers.specs.Caps as cap
+use Rattle.numbers.specs.Allowed.{Allowed, plain}
 use Rattle.fields.specs.Be.{be, beAt}
 use Rattle.fields.specs.Field.{holds, fieldAt}
 use Rattle.fields.specs.declared.Field.{Field}
@@ -21,7 +22,7 @@ use Rattle.literal.specs.Inner.Parse.{isLiteral}
 use Rattle.numbers.specs.Numbers as number
 use Rattle.numbers.specs.Numbers.{among, Listed}
 use Rattle.rows.specs.Row as row
-use Rattle.rows.specs.Layout.{numberText, bitsThen, digits, rowAt}
+use Rattle.rows.specs.Layout.{numberText, bitsThen, digits, rowAt, positionAt, leafAt}
 use Rattle.rows.specs.declared.Row.{Row}
 use Rattle.rows.specs.declared.Row.the-variants.{To, No}
 use Rattle.rows.proofs.Laws.{name-to}
@@ -146,6 +147,13 @@ module _ (b c : List ℕ) where
       (near-cond p (eqb tag 110) _ _ _ _ (near-sized 1 p _ _ near-digits)
       (near-cond p (eqb tag 111) _ _ _ _ (near-sized 4 p _ _ near-digits)
       refl)))))))))))
+
+  pub near-leaf : (allow : Allowed) (tag p : ℕ) → Near p (leafAt allow b tag p) (leafAt allow c tag p)
+  unfolding leafAt positionAt among
+  near-leaf allow tag p =
+      near-cond p (eqb tag 82) _ _ _ _
+      (near-cond p (allow .names) _ _ _ _ (near-sized 1 p _ _ (λ k e. near-cond e (allow .known k) _ _ _ _ (near-bytes 0 e) refl)) refl)
+      (near-cond p (eqb tag 99) _ _ _ _ (near-cond p (allow .texts) _ _ _ _ (near-text p) refl) (near-row tag p))
 
 pub row-within : (b : List ℕ) (tag p : ℕ) {e : ℕ} → rowAt b tag p ≡ To e → p ≤ length b → (p ≤ e) × (e ≤ length b)
 row-within b tag p h l = let k = rw h at (near-row b b tag p) in (k .0, k .1 l)

@@ -4,17 +4,18 @@ use native.Mathlib.Omega.{arith}
 use mathlib.Core.Path.{_≡_, refl, sym, _∙_}
 use mathlib.Core.List.{List}
 use mathlib.Core.Bool.{Bool, true, false, cond}
-use borrow.Author.Tests.{le-leb, lt-leb, leb-true, leb-false, eq-eqb, ne-eqb}
+use borrow.Author.Tests.{le-leb, lt-leb, leb-true, leb-false, eq-eqb, ne-eqb, eqb-true}
 use lib.Dec.{eqb, leb}
 use lib.ListN.{length, take, drop}
 use Rattle.fields.specs.Field.{holds, fieldAt}
 use Rattle.fields.specs.declared.Field.the-variants as field
 use Rattle.fields.specs.declared.Field.{Field}
-use Rattle.fields.proofs.Laws.{there, is-whole, then-is, then-eof, by-then}
+use Rattle.fields.proofs.Laws.{there, is-there, is-whole, then-is, then-eof, by-then}
 use Rattle.utf8.specs.Inner.Find.{goodBytes}
 use Rattle.literal.specs.Inner.Trim.{trimmed}
 use Rattle.literal.specs.Inner.Parse.{isLiteral}
-use Rattle.rows.specs.Layout.{numberText}
+use Rattle.rows.specs.Layout.{numberText, rowAt, positionAt, leafAt}
+use Rattle.numbers.specs.Allowed.{Allowed, plain}
 use Rattle.numbers.specs.Numbers as number
 use Rattle.numbers.specs.Numbers.{among, Listed}
 use Rattle.numbers.proofs.Laws.{by-test}
@@ -120,3 +121,43 @@ module _ (b : List ℕ) (p : ℕ) where
   pub no-text : {n x : ℕ} → name b 31 p ≡ No n x → No n x ≡ numberText b p
   unfolding numberText
   no-text h = rw h
+
+-- the rows of what is allowed: document 01's are those that are plain
+pub plain-leaf : (b : List ℕ) (tag p : ℕ) → leafAt plain b tag p ≡ rowAt b tag p
+unfolding leafAt positionAt rowAt
+plain-leaf b tag p = go (eqb tag 82) refl (eqb tag 99) refl
+  where
+    go : (x : Bool) → eqb tag 82 ≡ x → (y : Bool) → eqb tag 99 ≡ y → leafAt plain b tag p ≡ rowAt b tag p
+    go true e y f = rw (eqb-true tag 82 e)
+    go false e true f = rw (eqb-true tag 99 f)
+    go false e false f = rw (e, f)
+
+-- where texts are read, so has any tag but 82
+pub other-leaf : (allow : Allowed) (b : List ℕ) (tag p : ℕ) → allow .texts ≡ true → ¬ (tag ≡ 82) → leafAt allow b tag p ≡ rowAt b tag p
+unfolding leafAt rowAt
+other-leaf allow b tag p h k = go (eqb tag 99) refl
+  where
+    go : (x : Bool) → eqb tag 99 ≡ x → leafAt allow b tag p ≡ rowAt b tag p
+    go true e = rw (eqb-true tag 99 e, h)
+    go false e = rw (ne-eqb tag 82 k, e)
+
+-- an atom by its position: a tag that isn't one, no byte behind it, one that isn't known, and one that is
+module _ (allow : Allowed) (b : List ℕ) (p : ℕ) where
+  pub position-none : allow .names ≡ false → no number.Tag ≡ positionAt allow b p
+  unfolding positionAt
+  position-none h = rw h
+
+  pub position-eof : allow .names ≡ true → fieldAt 1 b p ≡ field.Eof → no number.Eof ≡ positionAt allow b p
+  unfolding positionAt
+  position-eof h e = rw h (sym (then-eof 1 b p _ _ e))
+
+  pub position-other : {k : ℕ} → allow .names ≡ true → fieldAt 1 b p ≡ field.Is k → allow .known k ≡ false → no number.Tag ≡ positionAt allow b p
+  unfolding positionAt
+  position-other h e t = rw h (sym (then-is 1 b p _ _ e ∙ rw t))
+
+  pub position-to : {k : ℕ} → allow .names ≡ true → fieldAt 1 b p ≡ field.Is k → allow .known k ≡ true → To (p + 1) ≡ positionAt allow b p
+  unfolding positionAt
+  position-to {k} h e t =
+      let i = is-whole 1 b p e .0 in
+      let q : p + 1 + 0 ≡ p + 1 = omega arith in
+      rw h (sym (then-is 1 b p _ _ e ∙ rw t (sym (bytes-there b 0 (p + 1) (is-there 0 b (p + 1) (omega arith))) ∙ rw q)))

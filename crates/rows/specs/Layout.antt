@@ -8,6 +8,7 @@ use Rattle.literal.specs.Inner.Trim.{trimmed}
 use Rattle.literal.specs.Inner.Parse.{isLiteral}
 use Rattle.numbers.specs.Numbers as number
 use Rattle.numbers.specs.Caps as cap
+use Rattle.numbers.specs.Allowed.{Allowed}
 use Rattle.rows.specs.Row.{no, andThen, bytes, sized, name, counted}
 use Rattle.rows.specs.declared.Row.{Row}
 use Rattle.rows.specs.declared.Row.the-variants.{To}
@@ -41,3 +42,15 @@ rowAt b tag p =
     (cond (eqb tag 110) (sized 1 b (digits b) p)
     (cond (eqb tag 111) (sized 4 b (digits b) p)
     (no number.Tag))))))))))))
+
+-- document 02, P3: "tag 82 and one byte is also an atom", where the byte is a position that is known; elsewhere it is Tag
+unfoldable pub positionAt : Allowed → List ℕ → ℕ → Row
+positionAt allow b p =
+    cond (allow .names) (sized 1 b (λ k q. cond (allow .known k) (bytes b 0 q) (no number.Tag)) p) (no number.Tag)
+
+-- the rows without children of what is allowed: 82, and 99 where it is read
+unfoldable pub leafAt : Allowed → List ℕ → ℕ → ℕ → Row
+leafAt allow b tag p =
+    cond (eqb tag 82) (positionAt allow b p)
+    (cond (eqb tag 99) (cond (allow .texts) (numberText b p) (no number.Tag))
+    (rowAt b tag p))

@@ -17,10 +17,11 @@ use Rattle.fields.proofs.Laws.{there, is-there, field-is, at-there, then-is}
 use Rattle.utf8.specs.Inner.Check.{Plain}
 use Rattle.utf8.proofs.Laws.{ascii-good}
 use Rattle.rows.specs.Row.{bytes, name, sized, counted}
-use Rattle.rows.specs.Layout.{rowAt}
+use Rattle.numbers.specs.Allowed.{Allowed}
+use Rattle.rows.specs.Layout.{leafAt, rowAt}
 use Rattle.shortcut.specs.Inner.Short.{plain, shortName, shortBinary, shortBy, shortEnd}
 use Rattle.rows.specs.declared.Row.the-variants.{To}
-use Rattle.rows.proofs.Laws.{bytes-there, name-good, count-in, counted-is}
+use Rattle.rows.proofs.Laws.{bytes-there, name-good, count-in, counted-is, plain-leaf}
 use Rattle.rows.proofs.Ends.{row-within}
 
 module _ (b : List ℕ) where
@@ -118,22 +119,22 @@ module _ (b : List ℕ) (p : ℕ) where
         go false e h = absurd (h refl)
 
     abbrev Row : ℕ → Type 0
-    Row t = ¬ (shortBy b p t ≡ 0) → rowAt b t (p + 1) ≡ To (shortBy b p t)
+    Row t = ¬ (shortBy b p t ≡ 0) → (allow : Allowed) → leafAt allow b t (p + 1) ≡ To (shortBy b p t)
 
     by-tags : (t : ℕ) → Row t
-    unfolding shortBy rowAt
+    unfolding shortBy leafAt rowAt
     by-tags t =
-        arm Row t 97 (λ _. some 1 _ (omega arith) (omega arith))
-        (arm Row t 98 (λ _. some 4 _ (omega arith) (omega arith))
-        (arm Row t 70 (λ _. some 8 _ (omega arith) (omega arith))
-        (arm Row t 106 (λ _. refl)
-        (arm Row t 119 name-row
-        (arm Row t 109 binary-row
+        arm Row t 97 (λ _ _. some 1 _ (omega arith) (omega arith))
+        (arm Row t 98 (λ _ _. some 4 _ (omega arith) (omega arith))
+        (arm Row t 70 (λ _ _. some 8 _ (omega arith) (omega arith))
+        (arm Row t 106 (λ _ _. refl)
+        (arm Row t 119 (λ h _. name-row h)
+        (arm Row t 109 (λ h _. binary-row h)
         (λ n k. let z : shortBy b p t ≡ 0 = search none-of in absurd (k z))))))) (tt {0})
 
--- the row whose tag stands at p ends at e
+-- the row whose tag stands at p ends at e, whatever is allowed
 pub record ShortRow (b : List ℕ) (p e : ℕ) : Type 0 where
-  pub same : rowAt b (getD b p 0) (p + 1) ≡ To e
+  pub same : (allow : Allowed) → leafAt allow b (getD b p 0) (p + 1) ≡ To e
   pub after : p < e
   pub inside : e ≤ length b
 
@@ -145,6 +146,6 @@ short-row b p size = go (leb (p + 10) (length b)) refl
     go true e h =
         let room = leb-true _ _ e in
         let s = by-tags b p room size (getD b p 0) h in
-        let w = row-within b (getD b p 0) (p + 1) s (omega arith) in
+        let w = row-within b (getD b p 0) (p + 1) (sym (plain-leaf b (getD b p 0) (p + 1)) ∙ s _) (omega arith) in
         record { same = s; after = omega arith; inside = w .1 }
     go false e h = absurd (h refl)

@@ -6,7 +6,11 @@ use mathlib.Core.Path.{_≡_, refl, sym, _∙_}
 use mathlib.Core.Logic.{_↔_}
 use mathlib.Core.List.{List, [], _∷_}
 use mathlib.Core.Bool.{Bool, true, false}
+use Rattle.numbers.specs.Bits.{bit}
+use Rattle.message.specs.declared.MessageRead.{MessageRead}
 use Rattle.tape.proofs.Accepts as tape
+use Rattle.tape.proofs.Records.{record-sure}
+use Rattle.message.proofs.Sure.{message-sure}
 use Rattle.lookup.proofs.Meaning.{one-answer}
 use Rattle.jig.proofs.Told.{told-once, read-once}
 use Rattle.fields.proofs.has.Reads as fields-has
@@ -33,6 +37,7 @@ use Rattle.reading.proofs.refusal.Reads as reading-refusal
 use Rattle.reading.proofs.is_atom.Reads as reading-is-atom
 use Rattle.reading.proofs.is_natural.Reads as reading-is-natural
 use Rattle.reading.proofs.starts.Reads as reading-starts
+use Rattle.reading.proofs.plainly.Reads as reading-plainly
 use Rattle.terms.proofs.read.Reads as terms-read
 use Rattle.heads.proofs.head.Reads as heads-head
 use Rattle.heads.proofs.part.Reads as heads-part
@@ -42,16 +47,25 @@ use Rattle.layouts.proofs.shape_at.Reads as layouts-shape-at
 use Rattle.layouts.proofs.short_at.Reads as layouts-short-at
 use Rattle.layouts.proofs.inner_at.Reads as layouts-inner-at
 use Rattle.tape.proofs.read.Reads as tape-read
+use Rattle.tape.proofs.behind.Reads as tape-behind
 use Rattle.lookup.proofs.find_name.Reads as lookup-find-name
 use Rattle.lookup.proofs.find_number.Reads as lookup-find-number
 use Rattle.references.proofs.start.Reads as references-start
 use Rattle.references.proofs.is_new.Reads as references-is-new
+use Rattle.references.proofs.one_segment.Reads as references-one-segment
 use Rattle.references.proofs.reference_at.Reads as references-reference-at
 use Rattle.cache.proofs.empty.Reads as cache-empty
 use Rattle.cache.proofs.count.Reads as cache-count
 use Rattle.cache.proofs.get.Reads as cache-get
 use Rattle.cache.proofs.part.Reads as cache-part
 use Rattle.header.proofs.read.Reads as header-read
+use Rattle.header.proofs.names.Reads as header-names
+use Rattle.positions.proofs.get.Reads as positions-get
+use Rattle.positions.proofs.part.Reads as positions-part
+use Rattle.positions.proofs.get_at.Reads as positions-get-at
+use Rattle.positions.proofs.part_at.Reads as positions-part-at
+use Rattle.positions.proofs.note.Reads as positions-note
+use Rattle.message.proofs.read.Reads as message-read
 use Rattle.fragments.proofs.first.Reads as fragments-first
 use Rattle.fragments.proofs.next.Reads as fragments-next
 use Rattle.measure.proofs.needed.Reads as measure-needed
@@ -67,6 +81,9 @@ use Rattle.jig.proofs.sill_empty.Reads as jig-sill-empty
 use Rattle.jig.proofs.sill_count.Reads as jig-sill-count
 use Rattle.jig.proofs.sill_get.Reads as jig-sill-get
 use Rattle.jig.proofs.sill_header.Reads as jig-sill-header
+use Rattle.jig.proofs.sill_message.Reads as jig-sill-message
+use Rattle.jig.proofs.sill_position.Reads as jig-sill-position
+use Rattle.jig.proofs.sill_atom.Reads as jig-sill-atom
 use Rattle.jig.proofs.sill_first.Reads as jig-sill-first
 use Rattle.jig.proofs.sill_next.Reads as jig-sill-next
 use Rattle.jig.proofs.sill_write.Reads as jig-sill-write
@@ -95,6 +112,14 @@ module _ {L : Type 0} {A R S : L → Type 0} (Promise : (κ : L) → A κ → R 
   abbrev Leaves : List ((κ : L) → S κ → List ℕ) → Type 0
   Leaves runs = (κ : L) (a : A κ) (x y : R κ) (s t : S κ) → Promise κ a x s → Promise κ a y t → Same runs κ s t
 
+  -- the answers are the same, and so is what is left in each of these runs
+  abbrev All : List ((κ : L) → S κ → List ℕ) → Type 0
+  All runs = (κ : L) (a : A κ) (x y : R κ) (s t : S κ) → Promise κ a x s → Promise κ a y t → (x ≡ y) × Same runs κ s t
+
+  -- what the answers tell is the same, and so is what they leave
+  abbrev Told : ((κ : L) → R κ → ℕ → Bool) → ((κ : L) → S κ → List ℕ) → Type 0
+  Told tells left = (κ : L) (a : A κ) (x y : R κ) (s t : S κ) → Promise κ a x s → Promise κ a y t → ((k : ℕ) → tells κ x k ≡ tells κ y k) × (left κ s ≡ left κ t)
+
 pub record Determined : Type 0 where
   pub fields-has : Answer fields-has.Post
   pub fields-be-u8 : Answer fields-be-u8.Post
@@ -120,6 +145,7 @@ pub record Determined : Type 0 where
   pub reading-is-atom : Answer reading-is-atom.Post
   pub reading-is-natural : Answer reading-is-natural.Post
   pub reading-starts : Answer reading-starts.Post
+  pub reading-plainly : Answer reading-plainly.Post
   pub terms-read : Answer terms-read.Post
   pub heads-head : Answer heads-head.Post
   pub heads-part : Part heads-part.Post (λ κ r. r .now)
@@ -130,10 +156,13 @@ pub record Determined : Type 0 where
   pub layouts-inner-at : Answer layouts-inner-at.Post
   -- its third parameter is written to
   pub tape-read : Both tape-read.Post (λ κ s. s .1 .1 .0 .now)
+  -- its fourth
+  pub tape-behind : Both tape-behind.Post (λ κ s. s .1 .1 .1 .0 .now)
   pub lookup-find-name : Answer lookup-find-name.Post
   pub lookup-find-number : Answer lookup-find-number.Post
   pub references-start : Answer references-start.Post
   pub references-is-new : Answer references-is-new.Post
+  pub references-one-segment : Answer references-one-segment.Post
   pub references-reference-at : Answer references-reference-at.Post
   pub cache-empty : Answer cache-empty.Post
   pub cache-count : Answer cache-count.Post
@@ -141,6 +170,16 @@ pub record Determined : Type 0 where
   pub cache-part : Part cache-part.Post (λ κ r. r .now)
   -- its third parameter is written to
   pub header-read : Both header-read.Post (λ κ s. s .1 .1 .0 .now)
+  -- its sixth
+  pub header-names : Both header-names.Post (λ κ s. s .1 .1 .1 .1 .1 .0 .now)
+  pub positions-get : Answer positions-get.Post
+  pub positions-part : Part positions-part.Post (λ κ r. r .now)
+  pub positions-get-at : Answer positions-get-at.Post
+  pub positions-part-at : Part positions-part-at.Post (λ κ r. r .now)
+  -- every bit of its four words, and its sixth parameter, which is written to
+  pub positions-note : Told positions-note.Post (λ κ r. bit r) (λ κ s. s .1 .1 .1 .1 .1 .0 .now)
+  -- the store, the run of positions and the tape are written to
+  pub message-read : All message-read.Post ((λ κ s. s .1 .1 .1 .0 .now) ∷ (λ κ s. s .1 .1 .1 .1 .0 .now) ∷ (λ κ s. s .1 .1 .1 .1 .1 .0 .now) ∷ [])
   pub fragments-first : Answer fragments-first.Post
   pub fragments-next : Answer fragments-next.Post
   pub measure-needed : Answer measure-needed.Post
@@ -163,6 +202,11 @@ pub record Determined : Type 0 where
   pub jig-sill-get : Leaves jig-sill-get.Post ((λ κ s. s .1 .1 .1 .0 .now) ∷ [])
   -- the numbers told, the cache's words and its store
   pub jig-sill-header : Leaves jig-sill-header.Post ((λ κ s. s .1 .1 .1 .0 .now) ∷ (λ κ s. s .1 .0 .now) ∷ (λ κ s. s .1 .1 .0 .now) ∷ [])
+  -- the numbers told, the path's words and the tape, the cache's words, its store and the run of positions
+  pub jig-sill-message : Leaves jig-sill-message.Post ((λ κ s. s .1 .1 .1 .1 .1 .1 .0 .now) ∷ (λ κ s. s .1 .1 .1 .1 .1 .1 .1 .0 .now) ∷ (λ κ s. s .1 .1 .1 .1 .1 .0 .now) ∷ (λ κ s. s .1 .1 .0 .now) ∷ (λ κ s. s .1 .1 .1 .0 .now) ∷ (λ κ s. s .1 .1 .1 .1 .0 .now) ∷ [])
+  -- the numbers told
+  pub jig-sill-position : Leaves jig-sill-position.Post ((λ κ s. s .1 .1 .1 .1 .0 .now) ∷ [])
+  pub jig-sill-atom : Leaves jig-sill-atom.Post ((λ κ s. s .1 .1 .1 .1 .1 .0 .now) ∷ [])
   -- the numbers told
   pub jig-sill-first : Leaves jig-sill-first.Post ((λ κ s. s .1 .0 .now) ∷ [])
   pub jig-sill-next : Leaves jig-sill-next.Post ((λ κ s. s .1 .0 .now) ∷ [])
@@ -178,6 +222,10 @@ alike : {P : Type 0} (x y : Bool) → (x ≡ true) ↔ P → (y ≡ true) ↔ P 
 alike true y p q = sym (q .1 (p .0 refl))
 alike false true p q = p .1 (q .0 refl)
 alike false false p q = refl
+
+-- a message's answer, by its two parts
+one-message : (x y : MessageRead) → x .answer ≡ y .answer → x .cache ≡ y .cache → x ≡ y
+one-message x y e f = rw (e, f)
 
 pub determined : Determined
 determined = record {
@@ -205,6 +253,7 @@ determined = record {
   reading-is-atom = λ κ a x y s t p q. equal p q;
   reading-is-natural = λ κ a x y s t p q. equal p q;
   reading-starts = λ κ a x y s t p q. equal p q;
+  reading-plainly = λ κ a x y s t p q. equal p q;
   terms-read = λ κ a x y s t p q. equal p q;
   heads-head = λ κ a x y s t p q. equal p q;
   heads-part = λ κ a x y s t p q. equal p q;
@@ -213,23 +262,34 @@ determined = record {
   layouts-shape-at = λ κ a x y s t p q. equal p q;
   layouts-short-at = λ κ a x y s t p q. equal p q;
   layouts-inner-at = λ κ a x y s t p q. equal p q;
-  tape-read = λ κ a x y s t p q. tape.determined p q;
+  tape-read = λ κ a x y s t p q. tape.determined (record-sure _ _) p q;
+  tape-behind = λ κ a x y s t p q. tape.determined tt p q;
   lookup-find-name = λ κ a x y s t p q. one-answer p q;
   lookup-find-number = λ κ a x y s t p q. one-answer p q;
   references-start = λ κ a x y s t p q. equal p q;
   references-is-new = λ κ a x y s t p q. equal p q;
+  references-one-segment = λ κ a x y s t p q. equal p q;
   references-reference-at = λ κ a x y s t p q. equal p q;
   cache-empty = λ κ a x y s t p q. equal p q;
   cache-count = λ κ a x y s t p q. equal p q;
   cache-get = λ κ a x y s t p q. equal p q;
   cache-part = λ κ a x y s t p q. equal p q;
   header-read = λ κ a x y s t p q. (equal (p .0) (q .0), equal (p .1) (q .1));
+  header-names = λ κ a x y s t p q. (equal (p .0) (q .0), equal (p .1) (q .1));
+  positions-get = λ κ a x y s t p q. equal p q;
+  positions-part = λ κ a x y s t p q. equal p q;
+  positions-get-at = λ κ a x y s t p q. equal p q;
+  positions-part-at = λ κ a x y s t p q. equal p q;
+  positions-note = λ κ a x y s t p q. (λ k. equal (p .1 .1 [] k) (q .1 .1 [] k), equal (p .0) (q .0));
+  message-read = λ κ a x y s t p q.
+      let (e, f) = tape.determined (message-sure _ _ _ _) (p .0) (q .0) in
+      (one-message x y e (equal (p .1 .0) (q .1 .0)), (equal (p .1 .1 .0) (q .1 .1 .0), (equal (p .1 .1 .1) (q .1 .1 .1), f)));
   fragments-first = λ κ a x y s t p q. equal p q;
   fragments-next = λ κ a x y s t p q. equal p q;
   measure-needed = λ κ a x y s t p q. equal p q;
   measure-owes = λ κ a x y s t p q. equal p q;
   writer-write = λ κ a x y s t p q. (equal (p .0) (q .0), equal (p .1) (q .1));
-  jig-sill-read = λ κ a x y s t p q. read-once p q;
+  jig-sill-read = λ κ a x y s t p q. read-once (record-sure _ _) p q;
   jig-sill-term = λ κ a x y s t p q. told-once (λ _ _ h k. equal h k) p q;
   jig-sill-find-name = λ κ a x y s t p q. told-once (λ _ _ h k. one-answer h k) p q;
   jig-sill-find-number = λ κ a x y s t p q. told-once (λ _ _ h k. one-answer h k) p q;
@@ -239,6 +299,11 @@ determined = record {
   jig-sill-count = λ κ a x y s t p q. equal p q;
   jig-sill-get = λ κ a x y s t p q. equal p q;
   jig-sill-header = λ κ a x y s t p q. (equal (p .0) (q .0), (equal (p .1 .0) (q .1 .0), equal (p .1 .1) (q .1 .1)));
+  jig-sill-message = λ κ a x y s t p q.
+      let (e, (f, g)) = read-once (message-sure _ _ _ _) (p .0) (q .0) in
+      (e, (f, (g, (equal (p .1 .0) (q .1 .0), (equal (p .1 .1 .0) (q .1 .1 .0), equal (p .1 .1 .1) (q .1 .1 .1))))));
+  jig-sill-position = λ κ a x y s t p q. equal p q;
+  jig-sill-atom = λ κ a x y s t p q. equal p q;
   jig-sill-first = λ κ a x y s t p q. equal p q;
   jig-sill-next = λ κ a x y s t p q. equal p q;
   jig-sill-write = λ κ a x y s t p q. (equal (p .0) (q .0), equal (p .1) (q .1));

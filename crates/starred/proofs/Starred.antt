@@ -16,7 +16,7 @@ use Rattle.rows.specs.Layout.{rowAt, bitsThen}
 use Rattle.reading.specs.declared.Answer.{Answer}
 use Rattle.reading.specs.declared.Kind.the-variants as kind
 use Rattle.reading.specs.declared.Segment.{Segment}
-use Rattle.reading.specs.Answer.{refusal, answer, starts, readAt}
+use Rattle.reading.specs.Answer.{refusal, answer, starts, readBy}
 use Rattle.reading.proofs.Examples.{behind, segment}
 use Rattle.heads.specs.Inner.Head as head
 use Rattle.heads.specs.Inner.Head.{headAt}
@@ -24,7 +24,7 @@ use Rattle.heads.specs.declared.Value.the-variants as value
 use Rattle.heads.proofs.Examples as heads
 use Rattle.agree.specs.Head.{headOf}
 use Rattle.agree.proofs.HeadIs.{head-is}
-use Rattle.tape.specs.Read.{ended, wholeFrom, recordIn, readAll}
+use Rattle.tape.specs.Read.{ended, wholeFrom, readBehind, startsBefore, version, recordBefore, readAll}
 use Rattle.lookup.specs.Lookup.{Looked, number as integer}
 use Rattle.lookup.proofs.Examples.{last-wins}
 use Rattle.cache.specs.declared.Cache.{Cache}
@@ -90,7 +90,7 @@ one-name b e f c store h k =
     (record { done = refl; rest = refl; slot = put-part (c .filled) store 5 (97 ∷ []) h k (omega arith) (omega arith) })
 
 pub starred : Starred
-unfolding readAll recordIn wholeFrom ended readAt starts answer behind bitsThen bitsByte
+unfolding recordBefore version startsBefore readBehind wholeFrom ended readBy starts answer behind bitsThen bitsByte
 starred = record {
   empty = λ room. refl;
   nothing = λ room. refl;

@@ -10,6 +10,7 @@ use mathlib.Core.List.{List, [], _∷_, _++_, append-nil}
 use lib.ListN.{length, getD, length-append}
 use lib.Seq.{length-sets}
 use Rattle.numbers.specs.Caps as cap
+use Rattle.numbers.specs.Allowed.{Allowed}
 use Rattle.layouts.specs.declared.Shape.{Shape}
 use Rattle.layouts.specs.Tree.{Tree, Forest, node, none, more, Stands, bytes, bytesAll, count, size, sizes}
 use Rattle.layouts.specs.Layout.{Laid, AllLaid, one-more}
@@ -64,8 +65,8 @@ module _ (tape : List ℕ) (up : ℕ) where
   tapeOf at cell ks = closed (lay tape cell (wordsAll ks at up cell)) up (endOf at ks) (cell + sizes ks - up)
 
 -- the children that are left stand here, with room for their cells
-pub record Here (b : List ℕ) (up n at cell : ℕ) (tape : List ℕ) (ks : Forest) : Type 0 where
-  pub laid : AllLaid ks
+pub record Here (allow : Allowed) (b : List ℕ) (up n at cell : ℕ) (tape : List ℕ) (ks : Forest) : Type 0 where
+  pub laid : AllLaid allow ks
   pub counted : count ks ≡ n
   pub stands : Stands b at (bytesAll ks)
   pub inside : endOf tape up at ks ≤ length b
@@ -73,12 +74,12 @@ pub record Here (b : List ℕ) (up n at cell : ℕ) (tape : List ℕ) (ks : Fore
   pub below : up < cell
   pub later : cell ≤ at
 
-pub data Owed (b final : List ℕ) : (up n at cell : ℕ) → (tape : List ℕ) → Type 0 where
-  owed : {up n at cell : ℕ} {tape : List ℕ} (ks : Forest) → Here b up n at cell tape ks →
+pub data Owed (allow : Allowed) (b final : List ℕ) : (up n at cell : ℕ) → (tape : List ℕ) → Type 0 where
+  owed : {up n at cell : ℕ} {tape : List ℕ} (ks : Forest) → Here allow b up n at cell tape ks →
       (up ≡ 0 → tapeOf tape up at cell ks ≡ final) →
       (¬ (up ≡ 0) → outer tape up < up) →
-      (¬ (up ≡ 0) → Owed b final (outer tape up) (rest tape up) (endOf tape up at ks) (cell + sizes ks) (tapeOf tape up at cell ks)) →
-      Owed b final up n at cell tape
+      (¬ (up ≡ 0) → Owed allow b final (outer tape up) (rest tape up) (endOf tape up at ks) (cell + sizes ks) (tapeOf tape up at cell ks)) →
+      Owed allow b final up n at cell tape
 
 -- where the innermost term stands
 pub record Top (b : List ℕ) (up at cell : ℕ) (tape : List ℕ) : Type 0 where
@@ -89,9 +90,9 @@ pub record Top (b : List ℕ) (up at cell : ℕ) (tape : List ℕ) : Type 0 wher
   pub inside : at + bytesBehind tape up ≤ length b
 
 -- a child is left: it stands here, and when its words are written the rest is owed
-pub record Child (b final : List ℕ) (up n at cell : ℕ) (tape : List ℕ) : Type 0 where
+pub record Child (allow : Allowed) (b final : List ℕ) (up n at cell : ℕ) (tape : List ℕ) : Type 0 where
   pub tree : Tree
-  pub laid : Laid tree
+  pub laid : Laid allow tree
   pub stands : Stands b at (bytes tree)
   pub short : length b ≤ cap.input
   pub some : at < length b
@@ -100,23 +101,23 @@ pub record Child (b final : List ℕ) (up n at cell : ℕ) (tape : List ℕ) : T
   pub room : cell * cellWords + 5 ≤ length tape
   pub below : up < cell
   pub later : cell ≤ at
-  pub next : Owed b final up (n - 1) (at + length (bytes tree)) (cell + size tree) (lay tape cell (words tree at up cell))
+  pub next : Owed allow b final up (n - 1) (at + length (bytes tree)) (cell + size tree) (lay tape cell (words tree at up cell))
 
 -- what the bytes of a child say of it
 pub record Shaped (b : List ℕ) (at : ℕ) (g : Shape) : Type 0 where
   pub after : at < g .from
   pub inside : g .from + g .back ≤ length b
 
-module _ {b final : List ℕ} where
+module _ {allow : Allowed} {b final : List ℕ} where
   -- the same, written another way
-  moved : {u u' l l' p p' c c' : ℕ} {t t' : List ℕ} → u ≡ u' → l ≡ l' → p ≡ p' → c ≡ c' → t ≡ t' → Owed b final u l p c t → Owed b final u' l' p' c' t'
+  moved : {u u' l l' p p' c c' : ℕ} {t t' : List ℕ} → u ≡ u' → l ≡ l' → p ≡ p' → c ≡ c' → t ≡ t' → Owed allow b final u l p c t → Owed allow b final u' l' p' c' t'
   moved e f g h i o = rw (sym e, sym f, sym g, sym h, sym i) o
 
-  pub top : {up n at cell : ℕ} {tape : List ℕ} → length b ≤ cap.input → Owed b final up n at cell tape → Top b up at cell tape
+  pub top : {up n at cell : ℕ} {tape : List ℕ} → length b ≤ cap.input → Owed allow b final up n at cell tape → Top b up at cell tape
   top s (owed ks h l o t) = record { short = s; below = h .below; later = h .later; fits = omega (arith, h .fits); inside = omega (arith, h .inside) }
 
   -- no child is left: the root is done, and any other gives way to its parent
-  pub done : {up n at cell : ℕ} {tape : List ℕ} → Owed b final up n at cell tape → up ≡ 0 → n ≡ 0 → closed tape up (at + bytesBehind tape up) (cell - up) ≡ final
+  pub done : {up n at cell : ℕ} {tape : List ℕ} → Owed allow b final up n at cell tape → up ≡ 0 → n ≡ 0 → closed tape up (at + bytesBehind tape up) (cell - up) ≡ final
   unfolding bytesAll count sizes
   done (owed (more x ks) h l d t) u z = absurd (omega (arith, h .counted))
   done {up} {n} {at} {cell} {tape} (owed none h l d t) u z =
@@ -124,8 +125,8 @@ module _ {b final : List ℕ} where
       let c : cell - up ≡ cell + 0 - up = omega arith in
       rw (e, c) (rw wordsAll-none at (l u))
 
-  pub shut : {up n at cell : ℕ} {tape : List ℕ} → Owed b final up n at cell tape → n ≡ 0 → ¬ (up ≡ 0) →
-      (outer tape up < up) × Owed b final (outer tape up) (rest tape up) (at + bytesBehind tape up) cell (closed tape up (at + bytesBehind tape up) (cell - up))
+  pub shut : {up n at cell : ℕ} {tape : List ℕ} → Owed allow b final up n at cell tape → n ≡ 0 → ¬ (up ≡ 0) →
+      (outer tape up < up) × Owed allow b final (outer tape up) (rest tape up) (at + bytesBehind tape up) cell (closed tape up (at + bytesBehind tape up) (cell - up))
   unfolding bytesAll count sizes
   shut (owed (more x ks) h l d t) z u = absurd (omega (arith, h .counted))
   shut {up} {n} {at} {cell} {tape} (owed none h l d t) z u =
@@ -135,12 +136,12 @@ module _ {b final : List ℕ} where
       let w : tapeOf tape up at cell none ≡ closed tape up (at + bytesBehind tape up) (cell - up) = rw (wordsAll-none, e, k) in
       (d u, moved refl refl e c w (t u))
 
-  pub child : {up n at cell : ℕ} {tape : List ℕ} → length b ≤ cap.input → Owed b final up n at cell tape → ¬ (n ≡ 0) → Child b final up n at cell tape
+  pub child : {up n at cell : ℕ} {tape : List ℕ} → length b ≤ cap.input → Owed allow b final up n at cell tape → ¬ (n ≡ 0) → Child allow b final up n at cell tape
   unfolding bytesAll count sizes
   child s (owed none h l d t) z = absurd (z (sym (h .counted)))
   child {up} {n} {at} {cell} {tape} s (owed (more x ks) h l d t) z = go (h .laid)
     where
-      go : AllLaid (more x ks) → Child b final up n at cell tape
+      go : AllLaid allow (more x ks) → Child allow b final up n at cell tape
       go (one-more lx lks) =
           let ws = words x at up cell in
           let new = lay tape cell ws in
@@ -188,12 +189,12 @@ module _ {b final : List ℕ} where
 
   -- a term's cell while it is open: its children are owed, and behind them what its parent has left
   module _ {up at cell n : ℕ} {mid new : List ℕ} {g : Shape} (tape : List ℕ) (h : length b ≤ cap.input) where
-    pub begins : (x : Tree) → Laid x → Stands b at (bytes x) → (cell + size x) * cellWords ≤ length tape → cell ≤ at →
+    pub begins : (x : Tree) → Laid allow x → Stands b at (bytes x) → (cell + size x) * cellWords ≤ length tape → cell ≤ at →
         g ≡ shapeAt b at → mid ≡ opened tape cell (getD b at 0) at up → new ≡ closed mid cell (g .back) n →
         (cell ≡ 0 → lay tape cell (words x at up cell) ≡ final) →
         (¬ (cell ≡ 0) → up < cell) →
-        (¬ (cell ≡ 0) → Owed b final up n (at + length (bytes x)) (cell + size x) (lay tape cell (words x at up cell))) →
-        Owed b final cell (g .kids) (g .from) (cell + 1) new
+        (¬ (cell ≡ 0) → Owed allow b final up n (at + length (bytes x)) (cell + size x) (lay tape cell (words x at up cell))) →
+        Owed allow b final cell (g .kids) (g .from) (cell + 1) new
     unfolding bytes size
     begins (node tag front ks back) l s f k e o v at-root below inside =
         let x = node tag front ks back in
@@ -214,7 +215,7 @@ module _ {b final : List ℕ} where
         let z : cell + 1 + sizes ks - cell ≡ suc (sizes ks) = omega arith in
         let w : tapeOf now cell from (cell + 1) ks ≡ lay tape cell (words x at up cell) =
         closed-again (opened tape cell tag at up) cell (length back) n ws _ _ ∙ rw (words-node, p, z) (cell-closed tape cell tag at (at + length (bytes x)) up (suc (sizes ks)) ws) in
-        let here : Here b cell (count ks) from (cell + 1) now ks =
+        let here : Here allow b cell (count ks) from (cell + 1) now ks =
         record {
           laid = kids-laid l;
           counted = refl;
@@ -237,74 +238,76 @@ unfolding shapeBy
 small-shape b at h l e = by-tag b at 97 (h, l) e
 
 -- no children, no bytes behind them
-bare : {tag : ℕ} {front back : List ℕ} → Laid (node tag front none back) → back ≡ []
+bare : {allow : Allowed} {tag : ℕ} {front back : List ℕ} → Laid allow (node tag front none back) → back ≡ []
 unfolding count
 bare {back = []} l = refl
 bare {back = x ∷ k} l = absurd (omega (arith, ap count (one-leaf l (λ e. omega (arith, ap (length {A = ℕ}) e)) .is)))
 
 -- what the bytes of a term say of it
-pub shaped : {b : List ℕ} {at : ℕ} {g : Shape} → length b ≤ cap.input → (t : Tree) → Laid t → Stands b at (bytes t) → g ≡ shapeAt b at → Shaped b at g
+pub shaped : {allow : Allowed} {b : List ℕ} {at : ℕ} {g : Shape} → length b ≤ cap.input → (t : Tree) → Laid allow t → Stands b at (bytes t) → g ≡ shapeAt b at → Shaped b at g
 unfolding bytes
-shaped {b} {at} {g} h (node tag front ks back) l s e =
+shaped {b = b} {at} {g} h (node tag front ks back) l s e =
     let q : g ≡ shapeOf (node tag front ks back) at = e ∙ shape-is b at (node tag front ks back) h l s in
     let i = s .inside in
     rw q (record { after = omega arith; inside = omega (arith, length-append front (bytesAll ks ++ back), length-append (bytesAll ks) back) })
 
 -- the loop: the tape that is wanted is what is owed
 
-pub record Going (b old : List ℕ) (up n at cell : ℕ) (tape : List ℕ) : Type 0 where
+pub record Going (start : ℕ) (b old : List ℕ) (up n at cell : ℕ) (tape : List ℕ) : Type 0 where
   pub short : length b ≤ cap.input
+  pub allow : Allowed
   pub kept : length tape ≡ length old
   pub final : List ℕ
-  pub is : Filled b old final
-  pub owes : Owed b final up n at cell tape
+  pub is : Filled b start old final
+  pub owes : Owed allow b final up n at cell tape
 
-pub there : {b : List ℕ} {room : ℕ} → Good b room → (1 < length b) × (5 ≤ room)
+pub there : {b : List ℕ} {start room : ℕ} → Good b start room → (start < length b) × (5 ≤ room)
 there q = (omega (arith, q .stands .inside, size-bytes (q .tree), size-own (q .tree)), omega (arith, q .fits, size-own (q .tree)))
 
 -- the root's cell is open: the words that are wanted lie over it, so that they are the same on the tape as it was
-module _ {b mid tape : List ℕ} {g : Shape} (old : List ℕ) (q : Good b (length old)) (e : g ≡ shapeAt b 1) (o : mid ≡ opened old 0 (getD b 1 0) 1 0) (v : tape ≡ closed mid 0 (g .back) 0) where
-  over : (t : Tree) → lay tape 0 (words t 1 0 0) ≡ lay old 0 (words t 1 0 0)
+module _ {b mid tape : List ℕ} {g : Shape} {start : ℕ} (old : List ℕ) (q : Good b start (length old)) (e : g ≡ shapeAt b start) (o : mid ≡ opened old 0 (getD b start 0) start 0) (v : tape ≡ closed mid 0 (g .back) 0) where
+  over : (t : Tree) → lay tape 0 (words t start 0 0) ≡ lay old 0 (words t start 0 0)
   over t =
-      let root = cell (getD b 1 0) 1 (g .back) 0 0 in
-      let w : tape ≡ lay old 0 root = v ∙ rw o (cell-closed old 0 (getD b 1 0) 1 (g .back) 0 0 []) in
-      let ws = words t 1 0 0 in
-      ap (λ (z : List ℕ). lay z 0 ws) w ∙ written-over old 0 root ws (omega (arith, words-length t 1 0 0, size-own t))
+      let root = cell (getD b start 0) start (g .back) 0 0 in
+      let w : tape ≡ lay old 0 root = v ∙ rw o (cell-closed old 0 (getD b start 0) start (g .back) 0 0 []) in
+      let ws = words t start 0 0 in
+      ap (λ (z : List ℕ). lay z 0 ws) w ∙ written-over old 0 root ws (omega (arith, words-length t start 0 0, size-own t))
 
-  pub as-it-was : {new : List ℕ} → Filled b tape new → Filled b old new
-  as-it-was f = record { same = λ t l s. f .same t l s ∙ over t }
+  pub as-it-was : {new : List ℕ} → Filled b start tape new → Filled b start old new
+  as-it-was f = record { same = λ allow t l s. f .same allow t l s ∙ over t }
 
   -- one term stands there, so its words are those of any
-  pub starts : Going b tape 0 (g .kids) (g .from) 1 tape
+  pub starts : Going start b tape 0 (g .kids) (g .from) 1 tape
   starts =
       record {
         short = q .short;
+        allow = q .allow;
         kept = refl;
-        final = lay tape 0 (words (q .tree) 1 0 0);
-        is = record { same = λ t l s. ap (λ (x : Tree). lay tape 0 (words x 1 0 0)) (unique b 1 (q .tree) t (q .short) (q .laid) l (q .stands) s) };
+        final = lay tape 0 (words (q .tree) start 0 0);
+        is = record { same = λ allow t l s. ap (λ (x : Tree). lay tape 0 (words x start 0 0)) (unique b start (q .tree) t (q .short) (q .laid) l (q .stands) s) };
         owes =
             begins {up = 0} {n = 0} old (q .short) (q .tree) (q .laid) (q .stands) (omega (arith, q .fits)) (omega arith) e o v
             (λ _. sym (over (q .tree))) (λ z. absurd (z refl)) (λ z. absurd (z refl));
       }
 
-module _ {b old : List ℕ} {up n at cell : ℕ} {tape : List ℕ} (g : Going b old up n at cell tape) where
+module _ {start : ℕ} {b old : List ℕ} {up n at cell : ℕ} {tape : List ℕ} (g : Going start b old up n at cell tape) where
   pub here : Top b up at cell tape
   here = top (g .short) (g .owes)
 
-  pub first : ¬ (n ≡ 0) → Child b (g .final) up n at cell tape
+  pub first : ¬ (n ≡ 0) → Child (g .allow) b (g .final) up n at cell tape
   first z = child (g .short) (g .owes) z
 
-module _ {b old : List ℕ} {up n at cell : ℕ} {tape new : List ℕ} (g : Going b old up n at cell tape) where
+module _ {start : ℕ} {b old : List ℕ} {up n at cell : ℕ} {tape new : List ℕ} (g : Going start b old up n at cell tape) where
   -- a child without children is written
   pub past : {e : ℕ} → ¬ (n ≡ 0) → ends e ≡ shapeAt b at → new ≡ closed (opened tape cell (getD b at 0) at up) cell e 1 → length new ≡ length tape →
-      Going b old up (n - 1) e (cell + 1) new
+      Going start b old up (n - 1) e (cell + 1) new
   unfolding bytes size count
   past {e} z f v k =
       let x = first g z in
-      record { short = g .short; kept = k ∙ g .kept; final = g .final; is = g .is; owes = go (x .tree) (x .laid) (x .stands) (x .next) }
+      record { short = g .short; allow = g .allow; kept = k ∙ g .kept; final = g .final; is = g .is; owes = go (x .tree) (x .laid) (x .stands) (x .next) }
     where
-      go : (t : Tree) → Laid t → Stands b at (bytes t) → Owed b (g .final) up (n - 1) (at + length (bytes t)) (cell + size t) (lay tape cell (words t at up cell)) →
-          Owed b (g .final) up (n - 1) e (cell + 1) new
+      go : (t : Tree) → Laid (g .allow) t → Stands b at (bytes t) → Owed (g .allow) b (g .final) up (n - 1) (at + length (bytes t)) (cell + size t) (lay tape cell (words t at up cell)) →
+          Owed (g .allow) b (g .final) up (n - 1) e (cell + 1) new
       go (node tag front (more t ts) back) l s o =
           let q : ends e ≡ shapeOf (node tag front (more t ts) back) at = f ∙ shape-is b at (node tag front (more t ts) back) (g .short) l s in
           absurd (omega (arith, ap (λ (y : Shape). y .kids) q))
@@ -316,11 +319,12 @@ module _ {b old : List ℕ} {up n at cell : ℕ} {tape new : List ℕ} (g : Goin
 
   -- the cell of any other is open
   pub into : {mid : List ℕ} {s : Shape} → ¬ (n ≡ 0) → s ≡ shapeAt b at → mid ≡ opened tape cell (getD b at 0) at up → new ≡ closed mid cell (s .back) (n - 1) → length new ≡ length tape →
-      Going b old cell (s .kids) (s .from) (cell + 1) new
+      Going start b old cell (s .kids) (s .from) (cell + 1) new
   into z e o v k =
       let x = first g z in
       record {
         short = g .short;
+        allow = g .allow;
         kept = k ∙ g .kept;
         final = g .final;
         is = g .is;
@@ -329,10 +333,10 @@ module _ {b old : List ℕ} {up n at cell : ℕ} {tape new : List ℕ} (g : Goin
 
   -- a term whose children are written is closed
   module _ (v : new ≡ closed tape up (at + bytesBehind tape up) (cell - up)) (z : n ≡ 0) where
-    pub out : ¬ (up ≡ 0) → length new ≡ length tape → (outer tape up < up) × Going b old (outer tape up) (rest tape up) (at + bytesBehind tape up) cell new
+    pub out : ¬ (up ≡ 0) → length new ≡ length tape → (outer tape up < up) × Going start b old (outer tape up) (rest tape up) (at + bytesBehind tape up) cell new
     out u k =
         let (a, o) = shut (g .owes) z u in
-        (a, record { short = g .short; kept = k ∙ g .kept; final = g .final; is = g .is; owes = moved refl refl refl refl (sym v) o })
+        (a, record { short = g .short; allow = g .allow; kept = k ∙ g .kept; final = g .final; is = g .is; owes = moved refl refl refl refl (sym v) o })
 
-    pub whole : up ≡ 0 → Filled b old new
+    pub whole : up ≡ 0 → Filled b start old new
     whole u = rw (v ∙ done (g .owes) u z) (g .is)

@@ -5,4 +5,5 @@ pub mod Stores
 pub mod Filling
 pub mod Reading
 pub mod Accepts
+pub mod Records
 pub mod Examples

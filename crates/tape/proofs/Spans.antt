@@ -7,6 +7,7 @@ use mathlib.Core.Logic.{_⊎_, inl, inr, ⊎-elim}
 use mathlib.Core.Option.{some}
 use mathlib.Core.List.{List, [], _∷_, flatMap}
 use lib.ListN.{length, getElem?}
+use Rattle.numbers.specs.Allowed.{Allowed}
 use Rattle.layouts.specs.Tree.{Tree, Stands, bytes, size}
 use Rattle.layouts.specs.Layout.{Laid}
 use Rattle.layouts.specs.Nodes.{Node, nodes}
@@ -16,9 +17,9 @@ use Rattle.tape.specs.Cells.{cellWords, cellOf, words}
 use Rattle.tape.specs.Spans.{startAt, endAt, parentAt, sizeAt, Inside, Nested, OnePerTerm}
 use Rattle.tape.proofs.Blocks.{Block, block, own, by-place, from}
 
--- the term starts behind byte 131
-pub whole : (t : Tree) (tape : List ℕ) → Stands tape 0 (words t 1 0 0) → (startAt tape 0 ≡ 1) × (endAt tape 0 ≡ 1 + length (bytes t))
-whole t tape s = let o = own tape t 1 0 0 s in (o .start, o .end)
+-- the first cell is the whole term's
+pub whole : (t : Tree) (start : ℕ) (tape : List ℕ) → Stands tape 0 (words t start 0 0) → (startAt tape 0 ≡ start) × (endAt tape 0 ≡ start + length (bytes t))
+whole t start tape s = let o = own tape t start 0 0 s in (o .start, o .end)
 
 -- cells from 0 on that are a block, with the first as the one around them
 module _ (tape : List ℕ) (n p e : ℕ) (x : Block tape 0 0 n p e) where
@@ -65,11 +66,11 @@ module _ (tape : List ℕ) (n p e : ℕ) (x : Block tape 0 0 n p e) where
             holds i (parentAt tape j) (omega arith) (x .pairs i j (omega arith) (omega arith) k .innermost c) (omega arith);
       }
 
-pub nested : (t : Tree) (tape : List ℕ) → Stands tape 0 (words t 1 0 0) → Nested tape (size t)
-nested t tape s =
-    let o = own tape t 1 0 0 s in
-    let e : ℕ = 1 + length (bytes t) in
-    laws tape (size t) 1 e (block tape t 1 0 0 (size t) e (omega arith) (omega arith) (omega arith) refl s) (o .parent)
+pub nested : (t : Tree) (start : ℕ) (tape : List ℕ) → Stands tape 0 (words t start 0 0) → Nested tape (size t)
+nested t start tape s =
+    let o = own tape t start 0 0 s in
+    let e : ℕ = start + length (bytes t) in
+    laws tape (size t) start e (block tape t start 0 0 (size t) e (omega arith) (omega arith) (omega arith) refl s) (o .parent)
 
 -- where the cells of a row stand from c on, each has its number in the row, counted from c
 at-number : (tape : List ℕ) (row : List Node) (c : ℕ) → Stands tape (cellWords * c) (flatMap cellOf row) → (i k : ℕ) → i < length row → k ≡ c + i →
@@ -83,17 +84,17 @@ at-number tape (n ∷ row) c s (suc i) k h e =
     let f : cellWords * c + cellWords ≡ cellWords * (c + 1) = omega arith in
     at-number tape row (c + 1) (rw f at (right tape (cellWords * c) (cellOf n) (flatMap cellOf row) s)) i k (omega arith) (omega arith)
 
--- of a term that stands behind byte 131, with its words at the tape's front
-module _ (t : Tree) (b tape : List ℕ) (l : Laid t) (x : Stands b 1 (bytes t)) (s : Stands tape 0 (words t 1 0 0)) where
+-- of a term that stands at a place, with its words at the tape's front
+module _ {allow : Allowed} (t : Tree) (start : ℕ) (b tape : List ℕ) (l : Laid allow t) (x : Stands b start (bytes t)) (s : Stands tape 0 (words t start 0 0)) where
   -- each cell is that of the term with its number in pre-order
-  pub one-per-term : {n : ℕ} → n ≡ size t → OnePerTerm tape b t n
+  pub one-per-term : {n : ℕ} → n ≡ size t → OnePerTerm tape allow b start t n
   unfolding words
   one-per-term e =
-      let row = nodes t 1 0 0 in
-      let len = nodes-length t 1 0 0 in
+      let row = nodes t start 0 0 in
+      let len = nodes-length t start 0 0 in
       record {
         as-many = len ∙ sym e;
         each = λ i h.
             let (m, k, c) = at-number tape row 0 s i i (omega arith) (omega arith) in
-            record { node = m; numbered = k; lies = lies b t 1 0 0 l x (is-in row i k); cell = c };
+            record { node = m; numbered = k; lies = lies b t start 0 0 l x (is-in row i k); cell = c };
       }

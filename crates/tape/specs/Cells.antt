@@ -18,6 +18,6 @@ cellOf n = tagOf (n .tree) ∷ n .start ∷ (n .start + length (bytes (n .tree))
 unfoldable pub words : Tree → (p up c : ℕ) → List ℕ
 words t p up c = flatMap cellOf (nodes t p up c)
 
--- the tape of a record: the term behind byte 131. "The root's parent is 0. Leftover words and cells past the last stay unchanged"
-unfoldable pub taped : Tree → List ℕ → List ℕ
-taped t tape = words t 1 0 0 ++ drop (cellWords * size t) tape
+-- the tape of a term that starts at a place of the input. "The root's parent is 0. Leftover words and cells past the last stay unchanged"
+unfoldable pub taped : (start : ℕ) → Tree → List ℕ → List ℕ
+taped start t tape = words t start 0 0 ++ drop (cellWords * size t) tape

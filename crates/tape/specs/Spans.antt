@@ -5,6 +5,7 @@ use mathlib.Core.Logic.{_⊎_, _↔_}
 use mathlib.Core.Option.{some}
 use mathlib.Core.List.{List}
 use lib.ListN.{length, getD, getElem?}
+use Rattle.numbers.specs.Allowed.{Allowed}
 use Rattle.layouts.specs.Tree.{Tree, Stands}
 use Rattle.layouts.specs.Nodes.{Node, Lies, nodes}
 use Rattle.tape.specs.Cells.{cellWords, cellOf}
@@ -47,14 +48,14 @@ module _ (tape : List ℕ) where
     pub innermost : (i j : ℕ) → i < n → j < n → ¬ (i ≡ j) → Inside i j → Inside i (parentAt j)
 
   -- cell i is the cell of number i of a row of terms, a term of b that lies there
-  pub record IsNode (b : List ℕ) (row : List Node) (i : ℕ) : Type 0 where
+  pub record IsNode (allow : Allowed) (b : List ℕ) (row : List Node) (i : ℕ) : Type 0 where
     pub node : Node
     pub numbered : getElem? row i ≡ some node
-    pub lies : Lies b node
+    pub lies : Lies allow b node
     pub cell : Stands tape (cellWords * i) (cellOf node)
 
-  -- "one cell per term": n cells, which are those of the terms of t in pre-order, t being the term behind byte 131 of the record b.
-  -- "The root's parent is 0"
-  pub record OnePerTerm (b : List ℕ) (t : Tree) (n : ℕ) : Type 0 where
-    pub as-many : length (nodes t 1 0 0) ≡ n
-    pub each : (i : ℕ) → i < n → IsNode b (nodes t 1 0 0) i
+  -- "one cell per term": n cells, which are those of the terms of t in pre-order, t being the term that starts at a place of the input b, 1 behind
+  -- byte 131. "The root's parent is 0"
+  pub record OnePerTerm (allow : Allowed) (b : List ℕ) (start : ℕ) (t : Tree) (n : ℕ) : Type 0 where
+    pub as-many : length (nodes t start 0 0) ≡ n
+    pub each : (i : ℕ) → i < n → IsNode allow b (nodes t start 0 0) i

@@ -84,10 +84,14 @@ fn tape(b: &[u8], limit: usize, words: usize, run: &mut [u32], out: &mut [u8], a
     filled(b, limit, &mut run[..words], out, at)
 }
 
-// The answer; behind it the cells of a Done read, and how many words of the run are as they were.
 fn filled(b: &[u8], limit: usize, run: &mut [u32], out: &mut [u8], at: usize) -> usize {
     blank(run);
     let a = tape::read(b, limit, run);
+    shown(a, run, out, at)
+}
+
+// The answer of a read into a run that was blank; behind it the cells of a Done read, and how many words of the run are as they were.
+pub fn shown(a: Answer, run: &[u32], out: &mut [u8], at: usize) -> usize {
     let put = told(a, out, at);
     let listed = listed(a.number, a.begun, run, out, put);
     print::field(out, listed, b" kept=", kept(run) as u64)
@@ -119,7 +123,8 @@ fn listed(number: u64, begun: usize, run: &[u32], out: &mut [u8], at: usize) -> 
     words(run, CELL * cells(run, begun), out, put)
 }
 
-fn blank(run: &mut [u32]) {
+// Makes every word of a run one that no cell has.
+pub fn blank(run: &mut [u32]) {
     let mut i = 0;
     while i < run.len() {
         run[i] = BLANK;

@@ -46,7 +46,7 @@ fn judged(b: &[u8]) -> u64 {
 
 // The term at a place, with all that reading answers.
 fn read(b: &[u8], limit: usize, place: usize, out: &mut [u8], at: usize) -> usize {
-    whole(terms::read(b, place, limit), out, at)
+    whole(terms::read(b, place, reading::plainly(limit)), out, at)
 }
 
 // The value of an integer in the map at a place.

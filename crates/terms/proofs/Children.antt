@@ -7,6 +7,7 @@ use native.Mathlib.Numerals.{add-one}
 use lib.ListN.{length}
 use borrow.Author.Tests.{eq-eqb, ne-eqb}
 use Rattle.numbers.specs.Caps as cap
+use Rattle.numbers.specs.Allowed.{Allowed}
 use Rattle.terms.specs.declared.Family.the-variants as family
 use Rattle.reading.specs.declared.Kind.{Kind}
 use Rattle.reading.specs.declared.Kind.the-variants.{Tuple, List as KList, Tail, Key, Value, Free}
@@ -138,9 +139,9 @@ module _ (read : State → Result) where
   free-kids n prev s = frees n 0 n prev s
 
 -- the deepest nesting may be raised to the first child's before the children are read
-pub raise-kids : (b : List ℕ) (limit rem : ℕ) (seg : ℕ → ℕ → Segment) (n prev : ℕ) (s : State) → ¬ (rem ≡ 0) → s .at < length b → ¬ (n ≡ 0) →
-    kidsOf (term b limit rem) seg 0 n prev s ≡ kidsOf (term b limit rem) seg 0 n prev (record { at = s .at; last = s .last; begun = s .begun; deepest = max (s .deepest) (limit + 1 - rem) })
+pub raise-kids : (allow : Allowed) (b : List ℕ) (limit rem : ℕ) (seg : ℕ → ℕ → Segment) (n prev : ℕ) (s : State) → ¬ (rem ≡ 0) → s .at < length b → ¬ (n ≡ 0) →
+    kidsOf (term allow b limit rem) seg 0 n prev s ≡ kidsOf (term allow b limit rem) seg 0 n prev (record { at = s .at; last = s .last; begun = s .begun; deepest = max (s .deepest) (limit + 1 - rem) })
 unfolding kidsOf
-raise-kids b limit rem seg zero prev s k h z = absurd (z refl)
-raise-kids b limit rem seg (suc n) prev s k h z =
-    ap (λ (o : Result). andThen (entering (seg 0 prev) o) (kidsOf (term b limit rem) seg (0 + 1) n (s .at))) (raise b limit rem s k h)
+raise-kids allow b limit rem seg zero prev s k h z = absurd (z refl)
+raise-kids allow b limit rem seg (suc n) prev s k h z =
+    ap (λ (o : Result). andThen (entering (seg 0 prev) o) (kidsOf (term allow b limit rem) seg (0 + 1) n (s .at))) (raise allow b limit rem s k h)

@@ -9,6 +9,7 @@ use native.Mathlib.Nat.{le-refl, max-eq-left, max-eq-right, le-of-lt}
 use lib.ListN.{length, getD, set, length-set}
 use lib.Seq.{getD-set-same, getD-set-other}
 use Rattle.rows.specs.Layout.{rowAt}
+use Rattle.rows.specs.declared.Row.{Row}
 use Rattle.rows.specs.declared.Row.the-variants.{To}
 use Rattle.rows.proofs.Ends.{row-within}
 use Rattle.reading.specs.Answer.{kindNumber}
@@ -214,8 +215,9 @@ pub noted : {seen fault : List ℕ} {room : ℕ} (o : Result) {g h : Segment} �
 noted o e s = rw e at s
 
 -- a row that ends
+pub row-to : (at : ℕ) {seen fault : List ℕ} {r len room : ℕ} {w : Row} → w ≡ To r → 1 ≤ r → r ≤ len → length fault ≡ 67 → getD seen 1 0 ≤ r → length seen ≡ 3 → Shows r seen fault len room (fields w (place at seen))
+row-to at {seen} {fault} {r} {len} q p i l c t = went (goes-by (fields-to _ q) (ends r seen fault len p i c t l))
+
 pub row-ends : {seen fault : List ℕ} {r room : ℕ} (b : List ℕ) (tag at : ℕ) → rowAt b tag at ≡ To r → 1 ≤ at → at ≤ length b → length fault ≡ 67 → getD seen 1 0 ≤ at → length seen ≡ 3 →
     Shows r seen fault (length b) room (fields (rowAt b tag at) (place at seen))
-row-ends {seen} {fault} {r} b tag at q p i l c t =
-    let w = row-within b tag at q i in
-    went (goes-by (fields-to _ q) (ends r seen fault (length b) (omega arith) (w .1) (omega arith) t l))
+row-ends b tag at q p i l c t = let w = row-within b tag at q i in row-to at q (omega arith) (w .1) l (omega arith) t

@@ -17,7 +17,7 @@ short-is b rem at {end} some size e h =
       some = some;
       after = r .after;
       inside = r .inside;
-      same = λ limit last count deep.
+      same = λ allow limit last count deep.
           let d : limit + 1 - rem ≡ limit - (rem - 1) = omega (arith, some) in
-          rw d (term-row b limit rem (record { at = at; last = last; begun = count; deepest = deep }) (omega (arith, r .after, r .inside)) some (r .same));
+          rw d (term-row allow b limit rem (record { at = at; last = last; begun = count; deepest = deep }) (omega (arith, r .after, r .inside)) some (r .same allow));
     }

@@ -15,7 +15,8 @@ use reading::Answer;
 use reading::Cause;
 use reading::Start;
 ghost use mathlib.Core.Path.{_≡_};
-ghost use Rattle.reading.specs.Answer.{readAt};
+ghost use Rattle.reading.specs.Answer.{readBy};
+ghost use Rattle.reading.specs.Asked.{allowedOf, limitOf};
 
 // What children are of: the loop over them tells by it which segment a child has.
 enum Family {
@@ -33,11 +34,12 @@ enum Needed {
     Pid,
 }
 
-// Reads the term at a place of b, any place, nested at most `limit` deep. Refused before reading: a limit of 0 or over 64 (Limit), more
-// than 16,777,216 bytes (Long).
-pub fn read(b: &[u8], at: usize, limit: usize) -> Answer
-    ensures { λ r. ⌜ r ≡ readAt (now (b .entry)) at limit ⌝ }
+// Reads the term at a place of b, any place, as it is asked (reading/specs/Asked.antt): which atoms may be told by positions, and how deep
+// it may be nested. Refused before reading: a limit of 0 or over 64 (Limit), more than 16,777,216 bytes (Long).
+pub fn read(b: &[u8], at: usize, asked: [usize; 6]) -> Answer
+    ensures { λ r. ⌜ r ≡ readBy (allowedOf asked) (now (b .entry)) at (limitOf asked) ⌝ }
 {
+    let limit = asked[reading::LIMIT];
     let start = reading::starts(limit, b.len());
     if let Start::No(cause) = start {
         return reading::refusal(cause, 0, 0, 0, 0);
@@ -47,7 +49,7 @@ pub fn read(b: &[u8], at: usize, limit: usize) -> Answer
     }
     let mut seen = [0usize; 3];
     let mut fault = [0u64; 67];
-    let end = readers::term(b, limit, limit, at, &mut seen, &mut fault);
+    let end = readers::term(b, &asked, limit, at, &mut seen, &mut fault);
     let begun = seen[1];
     let deepest = seen[2];
     if end != 0 {

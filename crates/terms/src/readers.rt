@@ -12,28 +12,31 @@ use crate::steps::begun;
 use crate::steps::deepen;
 use crate::steps::is_needed;
 use crate::steps::keep;
+use crate::steps::position;
 use crate::steps::row;
 use crate::steps::short;
 use crate::steps::skip;
 use fields::Field;
+use reading::LIMIT;
 use rows::Counted;
 ghost use Prim.Native.Nat.{_+_, _<_, _≤_};
 ghost use lib.ListN.{length};
 ghost use Rattle.reading.specs.Terms as def;
+ghost use Rattle.reading.specs.Asked.{allowedOf, limitOf};
 ghost use Rattle.terms.specs.Inner.Kids.{most, segmentOf, fits, named, kidsOf};
 ghost use Rattle.terms.specs.Inner.Lent.{place, Shows, Ready, Enters, Reads};
 
 // A term: the readers below call each other through it.
 pub(crate) fn term(
     b: &[u8],
-    limit: usize,
+    asked: &[usize; 6],
     rem: usize,
     at: usize,
     seen: &mut [usize; 3],
     fault: &mut [u64; 67],
 ) -> usize
-    requires { ⌜ Ready (now b) limit rem at (now seen) (now fault) ⌝ }
-    ensures { λ r. ⌜ Shows r (now (seen .exit)) (now (fault .exit)) (length (now (b .entry))) rem (def.term (now (b .entry)) limit rem (place at (now (seen .entry)))) ⌝ }
+    requires { ⌜ Ready (now b) (now asked) rem at (now seen) (now fault) ⌝ }
+    ensures { λ r. ⌜ Shows r (now (seen .exit)) (now (fault .exit)) (length (now (b .entry))) rem (def.term (allowedOf (now (asked .entry))) (now (b .entry)) (limitOf (now (asked .entry))) rem (place at (now (seen .entry)))) ⌝ }
 {
     if b.len() <= at {
         seen[0] = at;
@@ -44,33 +47,34 @@ pub(crate) fn term(
         return refuse(numbers::DEEP, 0, fault);
     }
     let r = rem - 1;
-    begun(at, limit - r, seen);
-    body(b, limit, r, b[at], at + 1, seen, fault)
+    begun(at, asked[LIMIT] - r, seen);
+    body(b, asked, r, b[at], at + 1, seen, fault)
 }
 
 // What stands behind a tag.
 fn body(
     b: &[u8],
-    limit: usize,
+    asked: &[usize; 6],
     rem: usize,
     tag: u8,
     at: usize,
     seen: &mut [usize; 3],
     fault: &mut [u64; 67],
 ) -> usize
-    requires { ⌜ Enters (now b) limit rem at (now seen) (now fault) ⌝ }
-    ensures { λ r. ⌜ Reads (λ read b. def.body read b tag) (now (b .entry)) limit rem at (now (seen .entry)) r (now (seen .exit)) (now (fault .exit)) ⌝ }
+    requires { ⌜ Enters (now b) (now asked) rem at (now seen) (now fault) ⌝ }
+    ensures { λ r. ⌜ Reads (λ read b. def.body (allowedOf (now (asked .entry))) read b tag) (now (b .entry)) (now (asked .entry)) rem at (now (seen .entry)) r (now (seen .exit)) (now (fault .exit)) ⌝ }
 {
     match tag {
-        104 => small_tuple(b, limit, rem, at, seen, fault),
-        105 => large_tuple(b, limit, rem, at, seen, fault),
-        108 => list(b, limit, rem, at, seen, fault),
-        116 => map(b, limit, rem, at, seen, fault),
-        88 => named(b, limit, rem, 12, at, seen, fault),
-        120 => named(b, limit, rem, 12, at, seen, fault),
-        90 => reference(b, limit, rem, at, seen, fault),
-        113 => export(b, limit, rem, at, seen, fault),
-        112 => function(b, limit, rem, at, seen, fault),
+        104 => small_tuple(b, asked, rem, at, seen, fault),
+        105 => large_tuple(b, asked, rem, at, seen, fault),
+        108 => list(b, asked, rem, at, seen, fault),
+        116 => map(b, asked, rem, at, seen, fault),
+        88 => named(b, asked, rem, 12, at, seen, fault),
+        120 => named(b, asked, rem, 12, at, seen, fault),
+        90 => reference(b, asked, rem, at, seen, fault),
+        113 => export(b, asked, rem, at, seen, fault),
+        112 => function(b, asked, rem, at, seen, fault),
+        82 => position(b, asked, at, fault),
         _ => row(b, tag, at, fault),
     }
 }
@@ -78,20 +82,20 @@ fn body(
 // A tuple whose arity has one byte.
 fn small_tuple(
     b: &[u8],
-    limit: usize,
+    asked: &[usize; 6],
     rem: usize,
     at: usize,
     seen: &mut [usize; 3],
     fault: &mut [u64; 67],
 ) -> usize
-    requires { ⌜ Enters (now b) limit rem at (now seen) (now fault) ⌝ }
-    ensures { λ r. ⌜ Reads def.smallTuple (now (b .entry)) limit rem at (now (seen .entry)) r (now (seen .exit)) (now (fault .exit)) ⌝ }
+    requires { ⌜ Enters (now b) (now asked) rem at (now seen) (now fault) ⌝ }
+    ensures { λ r. ⌜ Reads def.smallTuple (now (b .entry)) (now (asked .entry)) rem at (now (seen .entry)) r (now (seen .exit)) (now (fault .exit)) ⌝ }
 {
     let f = fields::be_u8(b, at);
     match f {
         Field::Is(n) => kids(
             b,
-            limit,
+            asked,
             rem,
             Family::Tuple,
             n as usize,
@@ -106,20 +110,20 @@ fn small_tuple(
 // A tuple whose arity has four bytes.
 fn large_tuple(
     b: &[u8],
-    limit: usize,
+    asked: &[usize; 6],
     rem: usize,
     at: usize,
     seen: &mut [usize; 3],
     fault: &mut [u64; 67],
 ) -> usize
-    requires { ⌜ Enters (now b) limit rem at (now seen) (now fault) ⌝ }
-    ensures { λ r. ⌜ Reads def.largeTuple (now (b .entry)) limit rem at (now (seen .entry)) r (now (seen .exit)) (now (fault .exit)) ⌝ }
+    requires { ⌜ Enters (now b) (now asked) rem at (now seen) (now fault) ⌝ }
+    ensures { λ r. ⌜ Reads def.largeTuple (now (b .entry)) (now (asked .entry)) rem at (now (seen .entry)) r (now (seen .exit)) (now (fault .exit)) ⌝ }
 {
     let arity = rows::count(b, numbers::ELEMENTS, at);
     match arity {
         Counted::Is(n) => kids(
             b,
-            limit,
+            asked,
             rem,
             Family::Tuple,
             n as usize,
@@ -134,20 +138,20 @@ fn large_tuple(
 // A list: its elements and its tail.
 fn list(
     b: &[u8],
-    limit: usize,
+    asked: &[usize; 6],
     rem: usize,
     at: usize,
     seen: &mut [usize; 3],
     fault: &mut [u64; 67],
 ) -> usize
-    requires { ⌜ Enters (now b) limit rem at (now seen) (now fault) ⌝ }
-    ensures { λ r. ⌜ Reads def.list (now (b .entry)) limit rem at (now (seen .entry)) r (now (seen .exit)) (now (fault .exit)) ⌝ }
+    requires { ⌜ Enters (now b) (now asked) rem at (now seen) (now fault) ⌝ }
+    ensures { λ r. ⌜ Reads def.list (now (b .entry)) (now (asked .entry)) rem at (now (seen .entry)) r (now (seen .exit)) (now (fault .exit)) ⌝ }
 {
     let elements = rows::count(b, numbers::ELEMENTS, at);
     match elements {
         Counted::Is(n) => kids(
             b,
-            limit,
+            asked,
             rem,
             Family::List,
             n as usize + 1,
@@ -162,20 +166,20 @@ fn list(
 // A map: a key and a value for each.
 fn map(
     b: &[u8],
-    limit: usize,
+    asked: &[usize; 6],
     rem: usize,
     at: usize,
     seen: &mut [usize; 3],
     fault: &mut [u64; 67],
 ) -> usize
-    requires { ⌜ Enters (now b) limit rem at (now seen) (now fault) ⌝ }
-    ensures { λ r. ⌜ Reads def.map (now (b .entry)) limit rem at (now (seen .entry)) r (now (seen .exit)) (now (fault .exit)) ⌝ }
+    requires { ⌜ Enters (now b) (now asked) rem at (now seen) (now fault) ⌝ }
+    ensures { λ r. ⌜ Reads def.map (now (b .entry)) (now (asked .entry)) rem at (now (seen .entry)) r (now (seen .exit)) (now (fault .exit)) ⌝ }
 {
     let pairs = rows::count(b, numbers::PAIRS, at);
     match pairs {
         Counted::Is(n) => kids(
             b,
-            limit,
+            asked,
             rem,
             Family::Map,
             2 * (n as usize),
@@ -190,17 +194,17 @@ fn map(
 // A child of a kind that is required: it is read whole, then judged.
 fn required(
     b: &[u8],
-    limit: usize,
+    asked: &[usize; 6],
     rem: usize,
     needed: Needed,
     at: usize,
     seen: &mut [usize; 3],
     fault: &mut [u64; 67],
 ) -> usize
-    requires { ⌜ Enters (now b) limit rem at (now seen) (now fault) ⌝ }
-    ensures { λ r. ⌜ Reads (λ read b. def.required read (fits needed b)) (now (b .entry)) limit rem at (now (seen .entry)) r (now (seen .exit)) (now (fault .exit)) ⌝ }
+    requires { ⌜ Enters (now b) (now asked) rem at (now seen) (now fault) ⌝ }
+    ensures { λ r. ⌜ Reads (λ read b. def.required read (fits needed b)) (now (b .entry)) (now (asked .entry)) rem at (now (seen .entry)) r (now (seen .exit)) (now (fault .exit)) ⌝ }
 {
-    let e = term(b, limit, rem, at, seen, fault);
+    let e = term(b, asked, rem, at, seen, fault);
     if e == 0 {
         return 0;
     }
@@ -213,17 +217,17 @@ fn required(
 // An atom, and n bytes: all of a pid and of a port, and the end of a reference.
 fn named(
     b: &[u8],
-    limit: usize,
+    asked: &[usize; 6],
     rem: usize,
     n: usize,
     at: usize,
     seen: &mut [usize; 3],
     fault: &mut [u64; 67],
 ) -> usize
-    requires { ⌜ Enters (now b) limit rem at (now seen) (now fault) ⌝ }
-    ensures { λ r. ⌜ Reads (λ read b. named read b n) (now (b .entry)) limit rem at (now (seen .entry)) r (now (seen .exit)) (now (fault .exit)) ⌝ }
+    requires { ⌜ Enters (now b) (now asked) rem at (now seen) (now fault) ⌝ }
+    ensures { λ r. ⌜ Reads (λ read b. named read b n) (now (b .entry)) (now (asked .entry)) rem at (now (seen .entry)) r (now (seen .exit)) (now (fault .exit)) ⌝ }
 {
-    let e = required(b, limit, rem, Needed::Atom, at, seen, fault);
+    let e = required(b, asked, rem, Needed::Atom, at, seen, fault);
     if e == 0 {
         return 0;
     }
@@ -233,18 +237,18 @@ fn named(
 // A reference: a count, its atom, the creation and so many ids.
 fn reference(
     b: &[u8],
-    limit: usize,
+    asked: &[usize; 6],
     rem: usize,
     at: usize,
     seen: &mut [usize; 3],
     fault: &mut [u64; 67],
 ) -> usize
-    requires { ⌜ Enters (now b) limit rem at (now seen) (now fault) ⌝ }
-    ensures { λ r. ⌜ Reads def.reference (now (b .entry)) limit rem at (now (seen .entry)) r (now (seen .exit)) (now (fault .exit)) ⌝ }
+    requires { ⌜ Enters (now b) (now asked) rem at (now seen) (now fault) ⌝ }
+    ensures { λ r. ⌜ Reads def.reference (now (b .entry)) (now (asked .entry)) rem at (now (seen .entry)) r (now (seen .exit)) (now (fault .exit)) ⌝ }
 {
     let f = fields::be_u16(b, at);
     match f {
-        Field::Is(n) => named(b, limit, rem, 4 + 4 * (n as usize), at + 2, seen, fault),
+        Field::Is(n) => named(b, asked, rem, 4 + 4 * (n as usize), at + 2, seen, fault),
         Field::Eof => refuse(numbers::EOF, 0, fault),
     }
 }
@@ -252,41 +256,41 @@ fn reference(
 // A function of a module: two atoms and an arity.
 fn export(
     b: &[u8],
-    limit: usize,
+    asked: &[usize; 6],
     rem: usize,
     at: usize,
     seen: &mut [usize; 3],
     fault: &mut [u64; 67],
 ) -> usize
-    requires { ⌜ Enters (now b) limit rem at (now seen) (now fault) ⌝ }
-    ensures { λ r. ⌜ Reads def.export (now (b .entry)) limit rem at (now (seen .entry)) r (now (seen .exit)) (now (fault .exit)) ⌝ }
+    requires { ⌜ Enters (now b) (now asked) rem at (now seen) (now fault) ⌝ }
+    ensures { λ r. ⌜ Reads def.export (now (b .entry)) (now (asked .entry)) rem at (now (seen .entry)) r (now (seen .exit)) (now (fault .exit)) ⌝ }
 {
-    let module = required(b, limit, rem, Needed::Atom, at, seen, fault);
+    let module = required(b, asked, rem, Needed::Atom, at, seen, fault);
     if module == 0 {
         return 0;
     }
-    let name = required(b, limit, rem, Needed::Atom, module, seen, fault);
+    let name = required(b, asked, rem, Needed::Atom, module, seen, fault);
     if name == 0 {
         return 0;
     }
-    required(b, limit, rem, Needed::Arity, name, seen, fault)
+    required(b, asked, rem, Needed::Arity, name, seen, fault)
 }
 
 // A function with its free terms.
 fn function(
     b: &[u8],
-    limit: usize,
+    asked: &[usize; 6],
     rem: usize,
     at: usize,
     seen: &mut [usize; 3],
     fault: &mut [u64; 67],
 ) -> usize
-    requires { ⌜ Enters (now b) limit rem at (now seen) (now fault) ⌝ }
-    ensures { λ r. ⌜ Reads def.function (now (b .entry)) limit rem at (now (seen .entry)) r (now (seen .exit)) (now (fault .exit)) ⌝ }
+    requires { ⌜ Enters (now b) (now asked) rem at (now seen) (now fault) ⌝ }
+    ensures { λ r. ⌜ Reads def.function (now (b .entry)) (now (asked .entry)) rem at (now (seen .entry)) r (now (seen .exit)) (now (fault .exit)) ⌝ }
 {
     let f = fields::be_u32(b, at + 25);
     match f {
-        Field::Is(n) => captured(b, limit, rem, n as usize, at + 29, seen, fault),
+        Field::Is(n) => captured(b, asked, rem, n as usize, at + 29, seen, fault),
         Field::Eof => refuse(numbers::EOF, 0, fault),
     }
 }
@@ -294,39 +298,39 @@ fn function(
 // Its module, two numbers, its pid and its free terms, of which there are n.
 fn captured(
     b: &[u8],
-    limit: usize,
+    asked: &[usize; 6],
     rem: usize,
     n: usize,
     at: usize,
     seen: &mut [usize; 3],
     fault: &mut [u64; 67],
 ) -> usize
-    requires { ⌜ Enters (now b) limit rem at (now seen) (now fault) × (n < 4294967296) ⌝ }
-    ensures { λ r. ⌜ Reads (λ read b. def.captured read b n) (now (b .entry)) limit rem at (now (seen .entry)) r (now (seen .exit)) (now (fault .exit)) ⌝ }
+    requires { ⌜ Enters (now b) (now asked) rem at (now seen) (now fault) × (n < 4294967296) ⌝ }
+    ensures { λ r. ⌜ Reads (λ read b. def.captured read b n) (now (b .entry)) (now (asked .entry)) rem at (now (seen .entry)) r (now (seen .exit)) (now (fault .exit)) ⌝ }
 {
-    let module = required(b, limit, rem, Needed::Atom, at, seen, fault);
+    let module = required(b, asked, rem, Needed::Atom, at, seen, fault);
     if module == 0 {
         return 0;
     }
-    let index = required(b, limit, rem, Needed::Natural, module, seen, fault);
+    let index = required(b, asked, rem, Needed::Natural, module, seen, fault);
     if index == 0 {
         return 0;
     }
-    let uniq = required(b, limit, rem, Needed::Natural, index, seen, fault);
+    let uniq = required(b, asked, rem, Needed::Natural, index, seen, fault);
     if uniq == 0 {
         return 0;
     }
-    let process = required(b, limit, rem, Needed::Pid, uniq, seen, fault);
+    let process = required(b, asked, rem, Needed::Pid, uniq, seen, fault);
     if process == 0 {
         return 0;
     }
-    kids(b, limit, rem, Family::Function, n, process, seen, fault)
+    kids(b, asked, rem, Family::Function, n, process, seen, fault)
 }
 
 // n children. Most are short leaves, which are read here, with what reading leaves behind in locals.
 fn kids(
     b: &[u8],
-    limit: usize,
+    asked: &[usize; 6],
     rem: usize,
     family: Family,
     n: usize,
@@ -334,14 +338,14 @@ fn kids(
     seen: &mut [usize; 3],
     fault: &mut [u64; 67],
 ) -> usize
-    requires { ⌜ Enters (now b) limit rem from (now seen) (now fault) × (n ≤ most family) ⌝ }
-    ensures { λ r. ⌜ Reads (λ read b. kidsOf read (segmentOf family n) 0 n from) (now (b .entry)) limit rem from (now (seen .entry)) r (now (seen .exit)) (now (fault .exit)) ⌝ }
+    requires { ⌜ Enters (now b) (now asked) rem from (now seen) (now fault) × (n ≤ most family) ⌝ }
+    ensures { λ r. ⌜ Reads (λ read b. kidsOf read (segmentOf family n) 0 n from) (now (b .entry)) (now (asked .entry)) rem from (now (seen .entry)) r (now (seen .exit)) (now (fault .exit)) ⌝ }
 {
     let mut at = from;
     let mut prev = from;
     let mut last = seen[0];
     let mut count = seen[1];
-    let mut deep = deepen(b, limit, rem, n, from, seen[2]);
+    let mut deep = deepen(b, asked, rem, n, from, seen[2]);
     let mut i = 0;
     while i < n {
         let end = short(b, rem, at);
@@ -354,7 +358,7 @@ fn kids(
             continue;
         }
         keep(last, count, deep, seen);
-        let e = child(b, limit, rem, at, seen, fault);
+        let e = child(b, asked, rem, at, seen, fault);
         if e == 0 {
             note(segment_of(family, n, i, prev), fault);
             return 0;
@@ -374,36 +378,36 @@ fn kids(
 // that it becomes part of the loop, and a container within another costs one call, not two.
 fn child(
     b: &[u8],
-    limit: usize,
+    asked: &[usize; 6],
     rem: usize,
     at: usize,
     seen: &mut [usize; 3],
     fault: &mut [u64; 67],
 ) -> usize
-    requires { ⌜ Ready (now b) limit rem at (now seen) (now fault) ⌝ }
-    ensures { λ r. ⌜ Shows r (now (seen .exit)) (now (fault .exit)) (length (now (b .entry))) rem (def.term (now (b .entry)) limit rem (place at (now (seen .entry)))) ⌝ }
+    requires { ⌜ Ready (now b) (now asked) rem at (now seen) (now fault) ⌝ }
+    ensures { λ r. ⌜ Shows r (now (seen .exit)) (now (fault .exit)) (length (now (b .entry))) rem (def.term (allowedOf (now (asked .entry))) (now (b .entry)) (limitOf (now (asked .entry))) rem (place at (now (seen .entry)))) ⌝ }
 {
     if rem == 0 {
-        return term(b, limit, rem, at, seen, fault);
+        return term(b, asked, rem, at, seen, fault);
     }
     if b.len() <= at {
-        return term(b, limit, rem, at, seen, fault);
+        return term(b, asked, rem, at, seen, fault);
     }
     let left = rem - 1;
     let tag = b[at];
     match tag {
         104 => {
-            begun(at, limit - left, seen);
-            small_tuple(b, limit, left, at + 1, seen, fault)
+            begun(at, asked[LIMIT] - left, seen);
+            small_tuple(b, asked, left, at + 1, seen, fault)
         }
         108 => {
-            begun(at, limit - left, seen);
-            list(b, limit, left, at + 1, seen, fault)
+            begun(at, asked[LIMIT] - left, seen);
+            list(b, asked, left, at + 1, seen, fault)
         }
         116 => {
-            begun(at, limit - left, seen);
-            map(b, limit, left, at + 1, seen, fault)
+            begun(at, asked[LIMIT] - left, seen);
+            map(b, asked, left, at + 1, seen, fault)
         }
-        _ => term(b, limit, rem, at, seen, fault),
+        _ => term(b, asked, rem, at, seen, fault),
     }
 }

@@ -2,6 +2,8 @@
 // bytes passed, and the test of a child that a row requires. None of these calls a reader.
 use crate::Needed;
 use crate::path::refuse;
+use reading::LIMIT;
+use reading::NAMES;
 use rows::Row;
 ghost use mathlib.Core.Path.{_≡_};
 ghost use mathlib.Core.List.{List};
@@ -12,6 +14,7 @@ ghost use Rattle.rows.specs.Layout as layout;
 ghost use Rattle.reading.specs.declared.Segment.{Segment};
 ghost use Rattle.reading.specs.Reading.{begin, fields, pass};
 ghost use Rattle.reading.specs.Terms as def;
+ghost use Rattle.reading.specs.Asked.{allowedOf, limitOf};
 ghost use Rattle.terms.specs.Inner.Kids.{fits, kidsOf};
 ghost use Rattle.terms.specs.Inner.Lent.{place, Shows, Short, Kept};
 
@@ -48,6 +51,24 @@ pub(crate) fn row(b: &[u8], tag: u8, at: usize, fault: &mut [u64; 67]) -> usize
         Row::To(e) => e,
         Row::No(n, x) => refuse(n, x, fault),
     }
+}
+
+// An atom by its position: one byte, whose bit says whether it is known, where 82 is a tag.
+pub(crate) fn position(b: &[u8], asked: &[usize; 6], at: usize, fault: &mut [u64; 67]) -> usize
+    requires { ⌜ (at ≤ length (now b)) × ((length (now fault) ≡ 67) × ((1 ≤ at) × (length (now asked) ≡ 6))) ⌝ }
+    ensures { λ r. ⌜ ((seen : List ℕ) (room : ℕ) → getD seen 1 0 ≤ at → length seen ≡ 3 → Shows r seen (now (fault .exit)) (length (now (b .entry))) room (fields (layout.positionAt (allowedOf (now (asked .entry))) (now (b .entry)) at) (place at seen))) ⌝ }
+{
+    if asked[NAMES] != 1 {
+        return refuse(numbers::TAG, 0, fault);
+    }
+    if b.len() <= at {
+        return refuse(numbers::EOF, 0, fault);
+    }
+    let k = b[at] as usize;
+    if (asked[k / 64] >> (k % 64)) % 2 == 1 {
+        return at + 1;
+    }
+    refuse(numbers::TAG, 0, fault)
 }
 
 // The end of a child that `shortcut` finds, where there is nesting left for it; 0 says nothing.
@@ -88,15 +109,15 @@ pub(crate) fn is_needed(b: &[u8], needed: Needed, at: usize) -> bool
 // The deepest nesting begun, raised to that of the first of n children where it is begun: then leaves among them change it no more.
 pub(crate) fn deepen(
     b: &[u8],
-    limit: usize,
+    asked: &[usize; 6],
     rem: usize,
     n: usize,
     from: usize,
     deep: usize,
 ) -> usize
-    requires { ⌜ (limit ≤ cap.nesting) × (rem ≤ limit) ⌝ }
-    ensures same { λ r. ⌜ ((seg : ℕ → ℕ → Segment) (prev last count : ℕ) → kidsOf (def.term (now (b .entry)) limit rem) seg 0 n prev (record { at = from; last = last; begun = count; deepest = deep }) ≡ kidsOf (def.term (now (b .entry)) limit rem) seg 0 n prev (record { at = from; last = last; begun = count; deepest = r })) ⌝ }
-    ensures deep { λ r. ⌜ (¬ (rem ≡ 0) → from < length (now (b .entry)) → ¬ (n ≡ 0) → limit + 1 - rem ≤ r) ⌝ }
+    requires { ⌜ (limitOf (now asked) ≤ cap.nesting) × ((rem ≤ limitOf (now asked)) × (length (now asked) ≡ 6)) ⌝ }
+    ensures same { λ r. ⌜ ((seg : ℕ → ℕ → Segment) (prev last count : ℕ) → kidsOf (def.term (allowedOf (now (asked .entry))) (now (b .entry)) (limitOf (now (asked .entry))) rem) seg 0 n prev (record { at = from; last = last; begun = count; deepest = deep }) ≡ kidsOf (def.term (allowedOf (now (asked .entry))) (now (b .entry)) (limitOf (now (asked .entry))) rem) seg 0 n prev (record { at = from; last = last; begun = count; deepest = r })) ⌝ }
+    ensures deep { λ r. ⌜ (¬ (rem ≡ 0) → from < length (now (b .entry)) → ¬ (n ≡ 0) → limitOf (now (asked .entry)) + 1 - rem ≤ r) ⌝ }
 {
     if n == 0 {
         return deep;
@@ -107,7 +128,7 @@ pub(crate) fn deepen(
     if b.len() <= from {
         return deep;
     }
-    let level = limit + 1 - rem;
+    let level = asked[LIMIT] + 1 - rem;
     if deep < level {
         return level;
     }

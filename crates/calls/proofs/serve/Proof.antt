@@ -8,13 +8,13 @@ use Rattle.calls.proofs.serve.Statement.{statement}
 use Rattle.calls.proofs.serve.Tie as tie
 
 abbrev Inv-loop : tie.InvT-loop
-Inv-loop text₀ store₀ run₀ row₀ lent₀ out₀ names₀ from₀ end₀ at₀ turns₀ t15 text store run row lent out names from end at turns = (from ≤ end) × ((end ≤ length text) × ((length text ≡ length text₀) × ((length store ≡ length store₀) × ((length run ≡ length run₀) × ((length row ≡ length row₀) × ((length lent ≡ length lent₀) × (length out ≡ length out₀)))))))
+Inv-loop text₀ store₀ noted₀ run₀ row₀ lent₀ out₀ names₀ from₀ end₀ at₀ turns₀ t16 text store noted run row lent out names from end at turns = (from ≤ end) × ((end ≤ length text) × ((length text ≡ length text₀) × ((length store ≡ length store₀) × ((length run ≡ length run₀) × ((length row ≡ length row₀) × ((length lent ≡ length lent₀) × (length out ≡ length out₀)))))))
 
 abbrev μ-loop : tie.MeasureT-loop
-μ-loop text₀ store₀ run₀ row₀ lent₀ out₀ names₀ from₀ end₀ at₀ turns₀ t15 text store run row lent out names from end at turns = turns
+μ-loop text₀ store₀ noted₀ run₀ row₀ lent₀ out₀ names₀ from₀ end₀ at₀ turns₀ t16 text store noted run row lent out names from end at turns = turns
 
 loop-again : tie.Need-loop-again Inv-loop μ-loop
-loop-again c = omega (arith, c .before .before .before .before .before .before .before .before .before .before .before .before .before .before .before .before .before .before .answer .kept, c .before .before .before .before .before .before .before .before .before .before .before .before .before .before .before .before .before .before .before .before .before .before .before .before .before .if1 .taken, c .before .before .before .before .before .before .before .before .before .before .before .before .before .before .before .before .before .before .before .before .before .before .before .before .before .before .before .before .before .loop .inv)
+loop-again c = omega (arith, c .before .before .before .before .before .before .before .before .before .before .before .before .before .before .before .before .before .before .answer .kept, c .before .before .before .before .before .before .before .before .before .before .before .before .before .before .before .before .before .before .before .before .before .before .before .before .before .before .if1 .taken, c .before .before .before .before .before .before .before .before .before .before .before .before .before .before .before .before .before .before .before .before .before .before .before .before .before .before .before .before .before .before .loop .inv)
 
 pub serve-spec : {M : Type 1} → statement M
 serve-spec =

@@ -3,13 +3,13 @@ use borrow.Author.Needs.{needs}
 use native.Mathlib.Omega.{arith}
 use Prim.Native.Nat.{_%_}
 use Rattle.cache.specs.Names.{marked}
-use Rattle.header.proofs.Storing.{bit}
+use Rattle.cache.proofs.Writes.{shifted}
 use Rattle.header.proofs.mark.Statement.{statement}
 use Rattle.header.proofs.mark.Tie as tie
 
 returns : tie.Need-returns
 unfolding marked
-returns c = rw (bit (c .before .args .slot % 64) (omega arith))
+returns c = rw (shifted (c .before .args .slot % 64) (omega arith))
 
 pub mark-spec : {M : Type 1} → statement M
 mark-spec =

@@ -9,7 +9,7 @@ use borrow.Author.Needs.{needs}
 use lib.ListN.{length, drop, length-set}
 use lib.Seq.{sets}
 use Rattle.cache.specs.Names.{stored}
-use Rattle.header.proofs.Storing.{sets-more, sets-all}
+use Rattle.cache.proofs.Writes.{sets-more, sets-all}
 use Rattle.header.proofs.put.Statement.{statement}
 use Rattle.header.proofs.put.Tie as tie
 

@@ -37,7 +37,8 @@ shapeBy b p tag =
     (cond (eqb tag 90) (inner (p + 3) 1 (4 + 4 * numberAt 2 b (p + 1)))
     (cond (eqb tag 113) (inner (p + 1) 3 0)
     (cond (eqb tag 112) (inner (p + 30) (numberAt 4 b (p + 26) + 4) 0)
-    (ends p))))))))))))))))))
+    (cond (eqb tag 82) (ends (p + 2))
+    (ends p)))))))))))))))))))
 
 -- the shape of the term at p. Past the end, and in an input longer than reading takes, it says nothing of use: so no sum is too large
 unfoldable pub shapeAt : List ℕ → ℕ → Shape
@@ -60,7 +61,8 @@ shortBy b p tag =
     (cond (eqb tag 106) (p + 1)
     (cond (eqb tag 119) (p + 2 + numberAt 1 b (p + 1))
     (cond (eqb tag 109) (p + 5 + numberAt 4 b (p + 1))
-    0)))))
+    (cond (eqb tag 82) (p + 2)
+    0))))))
 
 unfoldable pub shortAt : List ℕ → ℕ → ℕ
 shortAt b p = cond (ltb p (length b) && leb (length b) cap.input) (shortBy b p (getD b p 0)) 0

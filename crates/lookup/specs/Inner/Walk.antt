@@ -5,6 +5,7 @@ use mathlib.Core.Path.{_≡_}
 use mathlib.Core.List.{List}
 use mathlib.Core.Bool.{Bool}
 use lib.ListN.{length}
+use Rattle.numbers.specs.Allowed.{plain}
 use Rattle.numbers.specs.Caps as cap
 use Rattle.layouts.specs.Tree.{Tree, Forest, count, bytes, bytesAll, Stands}
 use Rattle.layouts.specs.Layout.{Laid, AllLaid}
@@ -21,11 +22,11 @@ keyOf (sought.Number z) s = number z
 
 -- the term t stands at p; the n terms ts stand side by side from p on
 pub record Term (b : List ℕ) (p : ℕ) (t : Tree) : Type 0 where
-  pub laid : Laid t
+  pub laid : Laid plain t
   pub stands : Stands b p (bytes t)
 
 pub record Terms (b : List ℕ) (p n : ℕ) (ts : Forest) : Type 0 where
-  pub laid : AllLaid ts
+  pub laid : AllLaid plain ts
   pub counted : count ts ≡ n
   pub stands : Stands b p (bytesAll ts)
 

@@ -5,8 +5,8 @@ use lib.ListN.{length-take}
 use Rattle.naming.proofs.answer.Statement.{statement}
 use Rattle.naming.proofs.answer.Tie as tie
 
-slice-aggregate-header : tie.Need-slice-aggregate-header
-slice-aggregate-header c = simp length-take (omega arith)
+slice-aggregate-b : tie.Need-slice-aggregate-b
+slice-aggregate-b c = simp length-take (omega arith)
 
 pub answer-spec : {M : Type 1} → statement M
 answer-spec =
@@ -14,8 +14,8 @@ answer-spec =
     (tie.spec
     (λ c κs. search needs)
     (λ c. search needs)
+    slice-aggregate-b
     (λ c. search needs)
-    slice-aggregate-header
     (λ c κs. search needs)
     (λ c. search needs)
     (λ c κs. search needs)

@@ -24,7 +24,11 @@ returns-4 c = rw (c .match .keys3)
 
 returns-5 : tie.Need-returns-5
 unfolding isAtom
-returns-5 c = search none-of
+returns-5 c = rw (c .match .keys4)
+
+returns-6 : tie.Need-returns-6
+unfolding isAtom
+returns-6 c = search none-of
 
 pub is-atom-spec : {M : Type 1} → statement M
-is-atom-spec = tie.close (tie.spec returns (λ c. search needs) returns-2 returns-3 returns-4 returns-5)
+is-atom-spec = tie.close (tie.spec returns (λ c. search needs) returns-2 returns-3 returns-4 returns-5 returns-6)

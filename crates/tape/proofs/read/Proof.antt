@@ -10,7 +10,7 @@ record-requires : tie.Need-record-requires
 record-requires c κs = starts-reads _ _ (sym (c .before .before .before .starts .ensures) ∙ c .before .enum-told .given .1)
 
 returns-2 : tie.Need-returns-2
-returns-2 c = laws.refuses (c .refusal .ensures) (sym (laws.read-no _ _ _ (sym (c .before .before .before .before .starts .ensures) ∙ c .before .before .start .given .1))) (laws.numbered (c .before .before .start .given .0 .0))
+returns-2 c = laws.refuse (c .refusal .ensures) (laws.behind-no _ _ _ (laws.before-no _ _ (sym (c .before .before .before .before .starts .ensures) ∙ c .before .before .start .given .1))) (laws.numbered (c .before .before .start .given .0 .0))
 
 pub read-spec : {M : Type 1} → statement M
 read-spec =

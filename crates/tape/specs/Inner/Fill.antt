@@ -5,6 +5,7 @@ use mathlib.Core.List.{List, [], _∷_, flatMap}
 use lib.ListN.{length, set}
 use lib.Seq.{sets}
 use Rattle.numbers.specs.Caps as cap
+use Rattle.numbers.specs.Allowed.{Allowed}
 use Rattle.layouts.specs.Tree.{Tree, Forest, Stands, bytes, size}
 use Rattle.layouts.specs.Layout.{Laid}
 use Rattle.layouts.specs.Nodes.{nodesAll}
@@ -29,14 +30,15 @@ closed tape c end size = set (set tape (c * cellWords + 2) end) (c * cellWords +
 abbrev pub lay : List ℕ → ℕ → List ℕ → List ℕ
 lay tape c ws = sets tape (c * cellWords) ws
 
--- a term stands behind byte 131, and there is room for its cells
-pub record Good (b : List ℕ) (room : ℕ) : Type 0 where
+-- a term stands at `start`, whatever is allowed in it, and there is room for its cells
+pub record Good (b : List ℕ) (start room : ℕ) : Type 0 where
   pub short : length b ≤ cap.input
+  pub allow : Allowed
   pub tree : Tree
-  pub laid : Laid tree
-  pub stands : Stands b 1 (bytes tree)
+  pub laid : Laid allow tree
+  pub stands : Stands b start (bytes tree)
   pub fits : cellWords * size tree ≤ room
 
 -- whatever term stands there, its words are on the tape
-pub record Filled (b old new : List ℕ) : Type 0 where
-  pub same : (t : Tree) → Laid t → Stands b 1 (bytes t) → new ≡ lay old 0 (words t 1 0 0)
+pub record Filled (b : List ℕ) (start : ℕ) (old new : List ℕ) : Type 0 where
+  pub same : (allow : Allowed) (t : Tree) → Laid allow t → Stands b start (bytes t) → new ≡ lay old 0 (words t start 0 0)

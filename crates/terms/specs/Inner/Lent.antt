@@ -5,11 +5,13 @@ use Prim.Native.Nat.{ℕ, zero, suc, _+_, _-_, _≤_, _<_, _/_, _%_, max}
 use mathlib.Core.List.{List, [], _∷_}
 use lib.ListN.{length, getD}
 use Rattle.numbers.specs.Caps as cap
+use Rattle.numbers.specs.Allowed.{Allowed}
 use Rattle.reading.specs.declared.Kind.{Kind}
 use Rattle.reading.specs.declared.Kind.the-variants.{Tuple, List as KList, Tail, Key, Value, Free}
 use Rattle.reading.specs.declared.Segment.{Segment}
 use Rattle.reading.specs.Reading.{State, Result, done, no}
 use Rattle.reading.specs.Terms.{term}
+use Rattle.reading.specs.Asked.{allowedOf, limitOf}
 
 -- a segment in a number: the kind's number times 2^32, and the number
 unfoldable pub kindOf : ℕ → Kind
@@ -32,13 +34,15 @@ pathOf (suc n) l = unpacked (getD l (n + 3) 0) ∷ pathOf n l
 abbrev pub place : ℕ → List ℕ → State
 place at seen = record { at = at; last = getD seen 0 0; begun = getD seen 1 0; deepest = getD seen 2 0 }
 
--- what a reader needs: a short input, a place in it, nesting within the limit, and the lent numbers (behind a reference nothing tells an array's length)
-pub record Ready (b : List ℕ) (limit rem at : ℕ) (seen fault : List ℕ) : Type 0 where
+-- what a reader needs: a short input, a place in it, nesting within the limit that is asked, and the lent numbers (behind a reference nothing
+-- tells an array's length)
+pub record Ready (b asked : List ℕ) (rem at : ℕ) (seen fault : List ℕ) : Type 0 where
   pub short : length b ≤ cap.input
   pub inside : at ≤ length b
   pub counted : getD seen 1 0 ≤ at
-  pub nested : rem ≤ limit
-  pub limited : limit ≤ cap.nesting
+  pub nested : rem ≤ limitOf asked
+  pub limited : limitOf asked ≤ cap.nesting
+  pub six : length asked ≡ 6
   pub three : length seen ≡ 3
   pub long : length fault ≡ 67
 
@@ -66,13 +70,13 @@ shows-by (suc end) seen fault len room o = GoesOn (suc end) seen fault len o
 pub record Shows (g : ℕ) (seen fault : List ℕ) (len room : ℕ) (o : Result) : Type 0 where
   pub shown : shows-by g seen fault len room o
 
--- a term that leaves its end, and one term more
+-- a term that leaves its end, and one term more, whatever is allowed
 pub record Short (b : List ℕ) (rem at end : ℕ) : Type 0 where
   pub some : ¬ (rem ≡ 0)
   pub after : at < end
   pub inside : end ≤ length b
-  pub same : (limit last count deep : ℕ) →
-      term b limit rem (record { at = at; last = last; begun = count; deepest = deep }) ≡ done (record { at = end; last = at; begun = count + 1; deepest = max deep (limit + 1 - rem) })
+  pub same : (allow : Allowed) (limit last count deep : ℕ) →
+      term allow b limit rem (record { at = at; last = last; begun = count; deepest = deep }) ≡ done (record { at = end; last = at; begun = count + 1; deepest = max deep (limit + 1 - rem) })
 
 -- what the lent numbers are
 pub record Kept (last count deep : ℕ) (seen : List ℕ) : Type 0 where
@@ -82,8 +86,8 @@ pub record Kept (last count deep : ℕ) (seen : List ℕ) : Type 0 where
 
 -- what every reader of a family requires, behind the term's tag, and what it ensures: with the levels that are left it reads as the family's
 -- definition does. `old` and `seen` are the lent numbers before and after
-abbrev pub Enters : (b : List ℕ) (limit rem at : ℕ) (seen fault : List ℕ) → Type 0
-Enters b limit rem at seen fault = Ready b limit (rem + 1) at seen fault × (1 ≤ at)
+abbrev pub Enters : (b asked : List ℕ) (rem at : ℕ) (seen fault : List ℕ) → Type 0
+Enters b asked rem at seen fault = Ready b asked (rem + 1) at seen fault × (1 ≤ at)
 
-abbrev pub Reads : ((State → Result) → List ℕ → State → Result) → (b : List ℕ) (limit rem at : ℕ) (old : List ℕ) (r : ℕ) (seen fault : List ℕ) → Type 0
-Reads family b limit rem at old r seen fault = Shows r seen fault (length b) (rem + 1) (family (term b limit rem) b (place at old))
+abbrev pub Reads : ((State → Result) → List ℕ → State → Result) → (b asked : List ℕ) (rem at : ℕ) (old : List ℕ) (r : ℕ) (seen fault : List ℕ) → Type 0
+Reads family b asked rem at old r seen fault = Shows r seen fault (length b) (rem + 1) (family (term (allowedOf asked) b (limitOf asked) rem) b (place at old))

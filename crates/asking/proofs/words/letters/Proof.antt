@@ -19,10 +19,11 @@ letters-spec =
     Inv-loop
     μ-loop
     (λ c. omega arith)
-    (λ c. search needs)
-    (λ c. omega arith)
     (λ c. omega arith)
     (λ c κs. search needs)
+    (λ c. search needs)
+    (λ c. search needs)
+    (λ c. omega arith)
     (λ c. omega arith)
     (λ c. omega arith)
     (λ c. omega arith)

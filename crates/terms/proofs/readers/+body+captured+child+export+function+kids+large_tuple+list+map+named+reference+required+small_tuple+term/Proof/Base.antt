@@ -54,6 +54,7 @@ use Rattle.terms.proofs.steps.begun.Reads as begun-reads
 use Rattle.terms.proofs.steps.deepen.Reads as deepen-reads
 use Rattle.terms.proofs.steps.is_needed.Reads as is-needed-reads
 use Rattle.terms.proofs.steps.keep.Reads as keep-reads
+use Rattle.terms.proofs.steps.position.Reads as position-reads
 use Rattle.terms.proofs.steps.row.Reads as row-reads
 use Rattle.terms.proofs.path.note.Reads as note-reads
 use Rattle.terms.proofs.path.refuse.Reads as refuse-reads
@@ -61,137 +62,137 @@ use Rattle.terms.proofs.path.segment_of.Reads as segment-of-reads
 use Rattle.terms.proofs.steps.short.Reads as short-reads
 use Rattle.terms.proofs.steps.skip.Reads as skip-reads
 
-abbrev pub μ-required : Measures 3 required-kinds.ps ℕ
+abbrev pub μ-required : Measures 4 required-kinds.ps ℕ
 μ-required κs a = 8 * a .1 .1 .0 + 1
 
-abbrev pub μ-body : Measures 3 body-kinds.ps ℕ
+abbrev pub μ-body : Measures 4 body-kinds.ps ℕ
 μ-body κs a = 8 * a .1 .1 .0 + 5
 
-abbrev pub μ-captured : Measures 3 captured-kinds.ps ℕ
+abbrev pub μ-captured : Measures 4 captured-kinds.ps ℕ
 μ-captured κs a = 8 * a .1 .1 .0 + 3
 
-abbrev pub μ-child : Measures 3 child-kinds.ps ℕ
+abbrev pub μ-child : Measures 4 child-kinds.ps ℕ
 μ-child κs a = 8 * a .1 .1 .0 + 1
 
-abbrev pub μ-export : Measures 3 export-kinds.ps ℕ
+abbrev pub μ-export : Measures 4 export-kinds.ps ℕ
 μ-export κs a = 8 * a .1 .1 .0 + 2
 
-abbrev pub μ-function : Measures 3 function-kinds.ps ℕ
+abbrev pub μ-function : Measures 4 function-kinds.ps ℕ
 μ-function κs a = 8 * a .1 .1 .0 + 4
 
-abbrev pub μ-kids : Measures 3 kids-kinds.ps ℕ
+abbrev pub μ-kids : Measures 4 kids-kinds.ps ℕ
 μ-kids κs a = 8 * a .1 .1 .0 + 2
 
-abbrev pub μ-large-tuple : Measures 3 large-tuple-kinds.ps ℕ
+abbrev pub μ-large-tuple : Measures 4 large-tuple-kinds.ps ℕ
 μ-large-tuple κs a = 8 * a .1 .1 .0 + 3
 
-abbrev pub μ-list : Measures 3 list-kinds.ps ℕ
+abbrev pub μ-list : Measures 4 list-kinds.ps ℕ
 μ-list κs a = 8 * a .1 .1 .0 + 3
 
-abbrev pub μ-map : Measures 3 map-kinds.ps ℕ
+abbrev pub μ-map : Measures 4 map-kinds.ps ℕ
 μ-map κs a = 8 * a .1 .1 .0 + 3
 
-abbrev pub μ-named : Measures 3 named-kinds.ps ℕ
+abbrev pub μ-named : Measures 4 named-kinds.ps ℕ
 μ-named κs a = 8 * a .1 .1 .0 + 2
 
-abbrev pub μ-reference : Measures 3 reference-kinds.ps ℕ
+abbrev pub μ-reference : Measures 4 reference-kinds.ps ℕ
 μ-reference κs a = 8 * a .1 .1 .0 + 3
 
-abbrev pub μ-small-tuple : Measures 3 small-tuple-kinds.ps ℕ
+abbrev pub μ-small-tuple : Measures 4 small-tuple-kinds.ps ℕ
 μ-small-tuple κs a = 8 * a .1 .1 .0 + 3
 
-abbrev pub μ-term : Measures 3 term-kinds.ps ℕ
+abbrev pub μ-term : Measures 4 term-kinds.ps ℕ
 μ-term κs a = 8 * a .1 .1 .0
 
-abbrev pub required-at : ℕ → In 3 required-kinds.ps
-required-at t = and 3 required-kinds.ps (is 3 required-kinds.ps μ-required t) required.Pre
+abbrev pub required-at : ℕ → In 4 required-kinds.ps
+required-at t = and 4 required-kinds.ps (is 4 required-kinds.ps μ-required t) required.Pre
 
-abbrev required-below : ℕ → In 3 required-kinds.ps
-required-below t = and 3 required-kinds.ps (falls 3 required-kinds.ps _<_ μ-required t) required.Pre
+abbrev required-below : ℕ → In 4 required-kinds.ps
+required-below t = and 4 required-kinds.ps (falls 4 required-kinds.ps _<_ μ-required t) required.Pre
 
-abbrev pub body-at : ℕ → In 3 body-kinds.ps
-body-at t = and 3 body-kinds.ps (is 3 body-kinds.ps μ-body t) body.Pre
+abbrev pub body-at : ℕ → In 4 body-kinds.ps
+body-at t = and 4 body-kinds.ps (is 4 body-kinds.ps μ-body t) body.Pre
 
-abbrev body-below : ℕ → In 3 body-kinds.ps
-body-below t = and 3 body-kinds.ps (falls 3 body-kinds.ps _<_ μ-body t) body.Pre
+abbrev body-below : ℕ → In 4 body-kinds.ps
+body-below t = and 4 body-kinds.ps (falls 4 body-kinds.ps _<_ μ-body t) body.Pre
 
-abbrev pub captured-at : ℕ → In 3 captured-kinds.ps
-captured-at t = and 3 captured-kinds.ps (is 3 captured-kinds.ps μ-captured t) captured.Pre
+abbrev pub captured-at : ℕ → In 4 captured-kinds.ps
+captured-at t = and 4 captured-kinds.ps (is 4 captured-kinds.ps μ-captured t) captured.Pre
 
-abbrev captured-below : ℕ → In 3 captured-kinds.ps
-captured-below t = and 3 captured-kinds.ps (falls 3 captured-kinds.ps _<_ μ-captured t) captured.Pre
+abbrev captured-below : ℕ → In 4 captured-kinds.ps
+captured-below t = and 4 captured-kinds.ps (falls 4 captured-kinds.ps _<_ μ-captured t) captured.Pre
 
-abbrev pub child-at : ℕ → In 3 child-kinds.ps
-child-at t = and 3 child-kinds.ps (is 3 child-kinds.ps μ-child t) child.Pre
+abbrev pub child-at : ℕ → In 4 child-kinds.ps
+child-at t = and 4 child-kinds.ps (is 4 child-kinds.ps μ-child t) child.Pre
 
-abbrev child-below : ℕ → In 3 child-kinds.ps
-child-below t = and 3 child-kinds.ps (falls 3 child-kinds.ps _<_ μ-child t) child.Pre
+abbrev child-below : ℕ → In 4 child-kinds.ps
+child-below t = and 4 child-kinds.ps (falls 4 child-kinds.ps _<_ μ-child t) child.Pre
 
-abbrev pub export-at : ℕ → In 3 export-kinds.ps
-export-at t = and 3 export-kinds.ps (is 3 export-kinds.ps μ-export t) export.Pre
+abbrev pub export-at : ℕ → In 4 export-kinds.ps
+export-at t = and 4 export-kinds.ps (is 4 export-kinds.ps μ-export t) export.Pre
 
-abbrev export-below : ℕ → In 3 export-kinds.ps
-export-below t = and 3 export-kinds.ps (falls 3 export-kinds.ps _<_ μ-export t) export.Pre
+abbrev export-below : ℕ → In 4 export-kinds.ps
+export-below t = and 4 export-kinds.ps (falls 4 export-kinds.ps _<_ μ-export t) export.Pre
 
-abbrev pub function-at : ℕ → In 3 function-kinds.ps
-function-at t = and 3 function-kinds.ps (is 3 function-kinds.ps μ-function t) function.Pre
+abbrev pub function-at : ℕ → In 4 function-kinds.ps
+function-at t = and 4 function-kinds.ps (is 4 function-kinds.ps μ-function t) function.Pre
 
-abbrev function-below : ℕ → In 3 function-kinds.ps
-function-below t = and 3 function-kinds.ps (falls 3 function-kinds.ps _<_ μ-function t) function.Pre
+abbrev function-below : ℕ → In 4 function-kinds.ps
+function-below t = and 4 function-kinds.ps (falls 4 function-kinds.ps _<_ μ-function t) function.Pre
 
-abbrev pub kids-at : ℕ → In 3 kids-kinds.ps
-kids-at t = and 3 kids-kinds.ps (is 3 kids-kinds.ps μ-kids t) kids.Pre
+abbrev pub kids-at : ℕ → In 4 kids-kinds.ps
+kids-at t = and 4 kids-kinds.ps (is 4 kids-kinds.ps μ-kids t) kids.Pre
 
-abbrev kids-below : ℕ → In 3 kids-kinds.ps
-kids-below t = and 3 kids-kinds.ps (falls 3 kids-kinds.ps _<_ μ-kids t) kids.Pre
+abbrev kids-below : ℕ → In 4 kids-kinds.ps
+kids-below t = and 4 kids-kinds.ps (falls 4 kids-kinds.ps _<_ μ-kids t) kids.Pre
 
-abbrev pub large-tuple-at : ℕ → In 3 large-tuple-kinds.ps
-large-tuple-at t = and 3 large-tuple-kinds.ps (is 3 large-tuple-kinds.ps μ-large-tuple t) large-tuple.Pre
+abbrev pub large-tuple-at : ℕ → In 4 large-tuple-kinds.ps
+large-tuple-at t = and 4 large-tuple-kinds.ps (is 4 large-tuple-kinds.ps μ-large-tuple t) large-tuple.Pre
 
-abbrev large-tuple-below : ℕ → In 3 large-tuple-kinds.ps
-large-tuple-below t = and 3 large-tuple-kinds.ps (falls 3 large-tuple-kinds.ps _<_ μ-large-tuple t) large-tuple.Pre
+abbrev large-tuple-below : ℕ → In 4 large-tuple-kinds.ps
+large-tuple-below t = and 4 large-tuple-kinds.ps (falls 4 large-tuple-kinds.ps _<_ μ-large-tuple t) large-tuple.Pre
 
-abbrev pub list-at : ℕ → In 3 list-kinds.ps
-list-at t = and 3 list-kinds.ps (is 3 list-kinds.ps μ-list t) list.Pre
+abbrev pub list-at : ℕ → In 4 list-kinds.ps
+list-at t = and 4 list-kinds.ps (is 4 list-kinds.ps μ-list t) list.Pre
 
-abbrev list-below : ℕ → In 3 list-kinds.ps
-list-below t = and 3 list-kinds.ps (falls 3 list-kinds.ps _<_ μ-list t) list.Pre
+abbrev list-below : ℕ → In 4 list-kinds.ps
+list-below t = and 4 list-kinds.ps (falls 4 list-kinds.ps _<_ μ-list t) list.Pre
 
-abbrev pub map-at : ℕ → In 3 map-kinds.ps
-map-at t = and 3 map-kinds.ps (is 3 map-kinds.ps μ-map t) map.Pre
+abbrev pub map-at : ℕ → In 4 map-kinds.ps
+map-at t = and 4 map-kinds.ps (is 4 map-kinds.ps μ-map t) map.Pre
 
-abbrev map-below : ℕ → In 3 map-kinds.ps
-map-below t = and 3 map-kinds.ps (falls 3 map-kinds.ps _<_ μ-map t) map.Pre
+abbrev map-below : ℕ → In 4 map-kinds.ps
+map-below t = and 4 map-kinds.ps (falls 4 map-kinds.ps _<_ μ-map t) map.Pre
 
-abbrev pub named-at : ℕ → In 3 named-kinds.ps
-named-at t = and 3 named-kinds.ps (is 3 named-kinds.ps μ-named t) named.Pre
+abbrev pub named-at : ℕ → In 4 named-kinds.ps
+named-at t = and 4 named-kinds.ps (is 4 named-kinds.ps μ-named t) named.Pre
 
-abbrev named-below : ℕ → In 3 named-kinds.ps
-named-below t = and 3 named-kinds.ps (falls 3 named-kinds.ps _<_ μ-named t) named.Pre
+abbrev named-below : ℕ → In 4 named-kinds.ps
+named-below t = and 4 named-kinds.ps (falls 4 named-kinds.ps _<_ μ-named t) named.Pre
 
-abbrev pub reference-at : ℕ → In 3 reference-kinds.ps
-reference-at t = and 3 reference-kinds.ps (is 3 reference-kinds.ps μ-reference t) reference.Pre
+abbrev pub reference-at : ℕ → In 4 reference-kinds.ps
+reference-at t = and 4 reference-kinds.ps (is 4 reference-kinds.ps μ-reference t) reference.Pre
 
-abbrev reference-below : ℕ → In 3 reference-kinds.ps
-reference-below t = and 3 reference-kinds.ps (falls 3 reference-kinds.ps _<_ μ-reference t) reference.Pre
+abbrev reference-below : ℕ → In 4 reference-kinds.ps
+reference-below t = and 4 reference-kinds.ps (falls 4 reference-kinds.ps _<_ μ-reference t) reference.Pre
 
-abbrev pub small-tuple-at : ℕ → In 3 small-tuple-kinds.ps
-small-tuple-at t = and 3 small-tuple-kinds.ps (is 3 small-tuple-kinds.ps μ-small-tuple t) small-tuple.Pre
+abbrev pub small-tuple-at : ℕ → In 4 small-tuple-kinds.ps
+small-tuple-at t = and 4 small-tuple-kinds.ps (is 4 small-tuple-kinds.ps μ-small-tuple t) small-tuple.Pre
 
-abbrev small-tuple-below : ℕ → In 3 small-tuple-kinds.ps
-small-tuple-below t = and 3 small-tuple-kinds.ps (falls 3 small-tuple-kinds.ps _<_ μ-small-tuple t) small-tuple.Pre
+abbrev small-tuple-below : ℕ → In 4 small-tuple-kinds.ps
+small-tuple-below t = and 4 small-tuple-kinds.ps (falls 4 small-tuple-kinds.ps _<_ μ-small-tuple t) small-tuple.Pre
 
-abbrev pub term-at : ℕ → In 3 term-kinds.ps
-term-at t = and 3 term-kinds.ps (is 3 term-kinds.ps μ-term t) term.Pre
+abbrev pub term-at : ℕ → In 4 term-kinds.ps
+term-at t = and 4 term-kinds.ps (is 4 term-kinds.ps μ-term t) term.Pre
 
-abbrev term-below : ℕ → In 3 term-kinds.ps
-term-below t = and 3 term-kinds.ps (falls 3 term-kinds.ps _<_ μ-term t) term.Pre
+abbrev term-below : ℕ → In 4 term-kinds.ps
+term-below t = and 4 term-kinds.ps (falls 4 term-kinds.ps _<_ μ-term t) term.Pre
 
 abbrev pub required-R : ℕ → required-lts.Claims
 required-R t = (term-below t, term.Post, is-needed-reads.Asked, is-needed-reads.Learnt, refuse-reads.Asked, refuse-reads.Learnt)
 
 abbrev pub body-R : ℕ → body-lts.Claims
-body-R t = (small-tuple-below t, small-tuple.Post, large-tuple-below t, large-tuple.Post, list-below t, list.Post, map-below t, map.Post, named-below t, named.Post, reference-below t, reference.Post, export-below t, export.Post, function-below t, function.Post, row-reads.Asked, row-reads.Learnt)
+body-R t = (small-tuple-below t, small-tuple.Post, large-tuple-below t, large-tuple.Post, list-below t, list.Post, map-below t, map.Post, named-below t, named.Post, reference-below t, reference.Post, export-below t, export.Post, function-below t, function.Post, position-reads.Asked, position-reads.Learnt, row-reads.Asked, row-reads.Learnt)
 
 abbrev pub captured-R : ℕ → captured-lts.Claims
 captured-R t = (required-below t, required.Post, kids-below t, kids.Post)

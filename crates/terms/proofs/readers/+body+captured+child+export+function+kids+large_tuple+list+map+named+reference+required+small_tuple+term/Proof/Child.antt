@@ -10,10 +10,10 @@ use Rattle.terms.proofs.readers.+body+captured+child+export+function+ki
 
 module _ (t : ℕ) where
   pub returns-3 : child-lts.Need-returns-3 (child-R t) (child-at t) child.Post
-  returns-3 c = laws.by (fam.term-body _ _ _ _ _ (omega arith) (c .before .before .before .before .before .before .before .before .if1 .left) (c .before .before .before .begun .ensures .0) ∙ fam.body-104 _ _ _ _ (c .before .before .before .before .before .match .keys1)) (laws.wider (omega arith) (c .small-tuple .ensures))
+  returns-3 c = laws.by (fam.term-body _ _ _ _ _ _ (omega arith) (c .before .before .before .before .before .before .before .before .before .if1 .left) (c .before .before .before .begun .ensures .0) ∙ fam.body-104 _ _ _ _ _ (c .before .before .before .before .before .before .match .keys1)) (laws.wider (omega arith) (c .small-tuple .ensures))
 
   pub returns-4 : child-lts.Need-returns-4 (child-R t) (child-at t) child.Post
-  returns-4 c = laws.by (fam.term-body _ _ _ _ _ (omega arith) (c .before .before .before .before .before .before .before .before .if1 .left) (c .before .before .before .begun2 .ensures .0) ∙ fam.body-108 _ _ _ _ (c .before .before .before .before .before .match .keys2)) (laws.wider (omega arith) (c .list .ensures))
+  returns-4 c = laws.by (fam.term-body _ _ _ _ _ _ (omega arith) (c .before .before .before .before .before .before .before .before .before .if1 .left) (c .before .before .before .begun2 .ensures .0) ∙ fam.body-108 _ _ _ _ _ (c .before .before .before .before .before .before .match .keys2)) (laws.wider (omega arith) (c .list .ensures))
 
   pub returns-5 : child-lts.Need-returns-5 (child-R t) (child-at t) child.Post
-  returns-5 c = laws.by (fam.term-body _ _ _ _ _ (omega arith) (c .before .before .before .before .before .before .before .before .if1 .left) (c .before .before .before .begun3 .ensures .0) ∙ fam.body-116 _ _ _ _ (c .before .before .before .before .before .match .keys3)) (laws.wider (omega arith) (c .map .ensures))
+  returns-5 c = laws.by (fam.term-body _ _ _ _ _ _ (omega arith) (c .before .before .before .before .before .before .before .before .before .if1 .left) (c .before .before .before .begun3 .ensures .0) ∙ fam.body-116 _ _ _ _ _ (c .before .before .before .before .before .before .match .keys3)) (laws.wider (omega arith) (c .map .ensures))

@@ -13,7 +13,7 @@ module _ (t : ℕ) where
   returns c = laws.wider (omega arith) (laws.stopped (laws.stops-by (fam.required-is _ _ _) (laws.then-stops _ (laws.stops (c .if1 .taken) (c .before .term .ensures)))))
 
   pub is-needed-requires : required-lts.Need-is-needed-requires (required-R t) (required-at t) required.Post
-  is-needed-requires c κs = fam.inside _ _ _ _ _ ((laws.goes (c .if1 .left) (c .before .term .ensures)) .same)
+  is-needed-requires c κs = fam.inside _ _ _ _ _ _ ((laws.goes (c .if1 .left) (c .before .term .ensures)) .same)
 
   pub returns-2 : required-lts.Need-returns-2 (required-R t) (required-at t) required.Post
   returns-2 c = let g = laws.goes (c .before .before .if1 .left) (c .before .before .before .term .ensures) in laws.went (laws.again g (fam.required-good _ _ _ (g .same) (sym (c .before .is-needed .ensures) ∙ c .if2 .taken)))

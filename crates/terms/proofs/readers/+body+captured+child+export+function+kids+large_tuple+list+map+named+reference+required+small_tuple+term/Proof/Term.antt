@@ -9,10 +9,10 @@ use Rattle.terms.proofs.readers.+body+captured+child+export+function+ki
 
 module _ (t : ℕ) where
   pub returns : term-lts.Need-returns (term-R t) (term-at t) term.Post
-  returns c = laws.by (fam.term-eof _ _ _ _ _ (omega arith) (laws.reach-is (c .before .before .before .before .args .seen .now) (c .before .before .before .before .args .at) (c .before .before .before .before .pre .1 .three))) (c .refuse .ensures _ _ _ _)
+  returns c = laws.by (fam.term-eof _ _ _ _ _ _ (omega arith) (laws.reach-is (c .before .before .before .before .args .seen .now) (c .before .before .before .before .args .at) (c .before .before .before .before .pre .1 .three))) (c .refuse .ensures _ _ _ _)
 
   pub returns-2 : term-lts.Need-returns-2 (term-R t) (term-at t) term.Post
-  returns-2 c = laws.by (fam.term-deep _ _ _ _ _ (omega arith) (c .before .before .if2 .taken) (laws.reach-is (c .before .before .before .before .before .args .seen .now) (c .before .before .before .before .before .args .at) (c .before .before .before .before .before .pre .1 .three))) (c .refuse2 .ensures _ _ _ _)
+  returns-2 c = laws.by (fam.term-deep _ _ _ _ _ _ (omega arith) (c .before .before .if2 .taken) (laws.reach-is (c .before .before .before .before .before .args .seen .now) (c .before .before .before .before .before .args .at) (c .before .before .before .before .before .pre .1 .three))) (c .refuse2 .ensures _ _ _ _)
 
   pub returns-3 : term-lts.Need-returns-3 (term-R t) (term-at t) term.Post
-  returns-3 c = laws.by (fam.term-body _ _ _ _ _ (omega arith) (c .before .before .before .before .before .before .if2 .left) (c .before .before .before .before .begun .ensures .0)) (laws.wider (omega arith) (c .body .ensures))
+  returns-3 c = laws.by (fam.term-body _ _ _ _ _ _ (omega arith) (c .before .before .before .before .before .before .before .if2 .left) (c .before .before .before .before .begun .ensures .0)) (laws.wider (omega arith) (c .body .ensures))

@@ -1,4 +1,4 @@
--- Laws of stores: a name that goes into its slot byte by byte, and a slot's bit. Assumes nothing.
+-- Laws of writes, for who fills a cache or notes its slots: a run of bytes that is written one by one, and a bit. Assumes nothing.
 use Prim.Native.Nat.{ℕ, suc, _+_, _*_, _^_, _%_, _≤_, _<_}
 use native.Mathlib.Nat.{one-mul}
 use native.Mathlib.Numerals.{add-one}
@@ -20,5 +20,5 @@ pub sets-all : (l s : List ℕ) (k i : ℕ) → length s ≤ i → sets l k (dro
 sets-all l s k i h = rw (drop-of-length-le s h)
 
 -- the code's 2 ^ k
-pub bit : (k : ℕ) → k < 64 → 1 * 2 ^ k % 2 ^ 64 ≡ 2 ^ k
-bit k h = shl-exact {a = 1} 1 k 64 (omega arith) (omega arith) ∙ one-mul (2 ^ k)
+pub shifted : (k : ℕ) → k < 64 → 1 * 2 ^ k % 2 ^ 64 ≡ 2 ^ k
+shifted k h = shl-exact {a = 1} 1 k 64 (omega arith) (omega arith) ∙ one-mul (2 ^ k)
