@@ -65,7 +65,8 @@ fieldsAt b tag at =
     (cond (eqb tag 113) value.Export
     (value.Function (numberAt 4 b p) (numberAt 1 b (p + 4)) (p + 5) (numberAt 4 b (p + 21)) (numberAt 4 b (p + 25)))))))))))))))))))))
 
--- "where a child tag other than 100, 118, 119 is Tag at once": a child is there, and its tag is another
+-- "where a child tag other than 100, 118, 119 is Tag at once": a child is there, and its tag is another. Plain reading refuses 82 as Tag there, so that it
+-- needs no word here
 unfoldable pub atOnce : List ℕ → ℕ → ℕ → Bool
 atOnce b tag at = ltb (atomAt tag at) (length b) && hasAtom tag && not (isAtom b (atomAt tag at))
 

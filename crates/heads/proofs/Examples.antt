@@ -64,6 +64,19 @@ pub no-id : headAt (131 ∷ 88 ∷ 119 ∷ 0 ∷ 0 ∷ []) 1 ≡ record { tag = 
 unfolding headAt term pid node named pidNumbers numberThen rowValue fixed layout.rowAt row.name row.bytes goodBytes goodFrom charBytes decode scalar encode starts holds fieldAt beAt be
 no-id = refl
 
+-- tag 82 is no head, and no atom of one: document 02's P3 leaves heads and parts as they were
+pub no-position : headAt (82 ∷ 0 ∷ []) 0 ≡ record { tag = 82; value = no number.Tag 0 }
+unfolding headAt term rowValue layout.rowAt
+no-position = refl
+
+pub no-position-child : headAt (131 ∷ 88 ∷ 82 ∷ 0 ∷ 0 ∷ 0 ∷ 0 ∷ 0 ∷ 0 ∷ 0 ∷ 0 ∷ 0 ∷ 0 ∷ 0 ∷ 0 ∷ 0 ∷ []) 1 ≡ record { tag = 88; value = no number.Tag 2 }
+unfolding headAt term pid node named
+no-position-child = refl
+
+pub no-position-part : partAt (82 ∷ 0 ∷ []) 0 ≡ []
+unfolding partAt partOf headAt term rowValue layout.rowAt
+no-position-part = refl
+
 -- a reference whose count is missing, at its own start
 pub no-count : headAt (131 ∷ 90 ∷ 0 ∷ []) 1 ≡ record { tag = 90; value = no number.Eof 1 }
 unfolding headAt term reference numberThen holds fieldAt beAt be

@@ -7,19 +7,18 @@ use mathlib.Core.Path.{_≡_, refl, ap, sym, subst, _∙_}
 use mathlib.Core.Logic.{_↔_}
 use mathlib.Core.List.{List, _++_}
 use mathlib.Core.Bool.{Bool, true, false, cond, _||_}
-use borrow.Author.Tests.{eqb-true, eqb-false, eq-eqb, ne-eqb, le-ltb}
+use borrow.Author.Tests.{eqb-true, eq-eqb, ne-eqb, le-ltb}
 use lib.Dec.{eqb, ltb}
 use lib.ListN.{length, take, length-append}
 use lib.Seq.{take-take, take-append-seam}
 use Rattle.numbers.specs.Caps as cap
 use Rattle.numbers.specs.Numbers as number
 use Rattle.numbers.specs.Allowed.{Allowed}
-use Rattle.references.specs.declared.Opening.the-variants as opening
-use Rattle.references.specs.Header.{segment, oneSegment, startOf, headerOf, slotsOf}
+use Rattle.references.specs.Header.{segment, startOf, headerOf, slotsOf}
 use Rattle.references.proofs.Local.{Whole, not-long}
 use Rattle.references.proofs.OneSegment.{one-segment}
 use Rattle.names.specs.Form.{Held, Left, left, over}
-use Rattle.names.proofs.Local.{Local, says-same}
+use Rattle.names.proofs.Local.{says-same}
 use Rattle.cache.specs.declared.Cache.{Cache}
 use Rattle.cache.specs.Names.{storeBytes, Slots, slots}
 use Rattle.header.specs.Header.{headerOver}
@@ -30,11 +29,11 @@ use Rattle.reading.specs.declared.Answer.{Answer}
 use Rattle.layouts.specs.Tree.{Tree, bytes, size, depth}
 use Rattle.layouts.specs.Layout.{Laid}
 use Rattle.tape.specs.Cells.{cellWords}
-use Rattle.tape.specs.Read.{Before, refuses, opens, wholeFrom, readBehind, Accepted}
+use Rattle.tape.specs.Read.{Before, refuses, opens, readBehind, Accepted}
 use Rattle.tape.proofs.Reading.{behind-term}
-use Rattle.tape.proofs.Accepts.{Inside, Opened, done-opened}
+use Rattle.tape.proofs.Accepts.{Inside, done-opened}
 use Rattle.tape.proofs.Accepts as any
-use Rattle.message.specs.Message.{flat, headed, allowedIn, messageBefore, messageOver, IsHeader, AcceptedMessage}
+use Rattle.message.specs.Message.{flat, headed, allowedIn, messageBefore, messageOver, AcceptedMessage}
 use Rattle.message.proofs.Sure.{message-sure}
 use Rattle.message.proofs.Fronts.{message-local, message-inside, message-alone, message-front, allowed-front}
 

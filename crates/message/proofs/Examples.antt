@@ -1,8 +1,7 @@
 -- Messages that tell a right read from a wrong one, over an empty cache, as the definitions compute them: the wrong program's answer, or what it
 -- leaves, can't meet the promise. Assumes nothing.
 use Prim.Native.Nat.{ℕ, _≤_}
-use native.Mathlib.Omega.{arith}
-use mathlib.Core.Path.{_≡_, refl, ap, sym, _∙_}
+use mathlib.Core.Path.{_≡_, refl, ap, _∙_}
 use mathlib.Core.List.{List, [], _∷_}
 use mathlib.Core.Bool.{true}
 use lib.Dec.{eqb}

@@ -2,19 +2,16 @@
 -- end. Assumes nothing.
 use Prim.Native.Nat.{ℕ, _≤_, _<_}
 use native.Mathlib.Omega.{arith}
-use mathlib.Core.Path.{_≡_, refl, ap, sym, fun-ext, _∙_}
+use mathlib.Core.Path.{_≡_, refl, ap, fun-ext, _∙_}
 use mathlib.Core.List.{List, [], _∷_}
-use mathlib.Core.Bool.{Bool, true, false, cond, _||_}
+use mathlib.Core.Bool.{Bool, true, false, cond}
 use borrow.Author.Tests.{eq-eqb, ne-eqb, lt-ltb, le-ltb}
-use lib.Dec.{eqb}
-use lib.ListN.{length, getD, take}
+use lib.ListN.{length, getD}
 use Rattle.numbers.specs.Bits.{bit}
 use Rattle.numbers.specs.Caps as cap
 use Rattle.numbers.specs.Numbers as number
-use Rattle.numbers.specs.Allowed.{Allowed}
-use Rattle.reading.specs.declared.Answer.{Answer}
 use Rattle.reading.specs.Answer.{refusal}
-use Rattle.reading.specs.Asked.{allowedOf, limitOf}
+use Rattle.reading.specs.Asked.{allowedOf}
 use Rattle.references.specs.declared.Opening.the-variants as opening
 use Rattle.references.specs.Inner.Known.{AllThere}
 use Rattle.references.specs.Header.{oneSegment, startOf, references, opened, headerOf, slotsOf}

@@ -1,25 +1,23 @@
 -- What stands before a message's term: a refusal there bears a number of the list, and a term starts behind the header, within the input. Assumes
 -- nothing.
-use Prim.Native.Nat.{ℕ, _+_, _≤_, _<_}
-use native.Mathlib.Omega.{arith}
-use mathlib.Core.Path.{_≡_, refl, ap, sym, _∙_}
+use Prim.Native.Nat.{ℕ}
+use mathlib.Core.Path.{_≡_, refl}
 use mathlib.Core.List.{List}
 use mathlib.Core.Bool.{Bool, true, false, cond, _||_}
-use borrow.Author.Tests.{eqb-true, eqb-false}
+use borrow.Author.Tests.{eqb-false}
 use lib.Dec.{eqb, ltb}
 use lib.ListN.{length}
 use Rattle.numbers.specs.Caps as cap
-use Rattle.numbers.specs.Numbers as number
-use Rattle.numbers.specs.Numbers.{among, Listed}
+use Rattle.numbers.specs.Numbers.{among}
 use Rattle.numbers.proofs.Laws.{outcome, Shown, shown-listed, by-test}
-use Rattle.references.specs.Header.{startOf, headerOf}
-use Rattle.names.specs.Form.{Left, left, over}
+use Rattle.references.specs.Header.{startOf}
+use Rattle.names.specs.Form.{Left}
 use Rattle.names.proofs.Outcomes.{over-shown}
 use Rattle.cache.specs.declared.Cache.{Cache}
 use Rattle.cache.specs.Names.{storeBytes, Slots, slots}
 use Rattle.cache.proofs.Lawful.{put-shown}
-use Rattle.tape.specs.Read.{Before, refuses, opens}
-use Rattle.tape.proofs.Accepts.{Sure, Inside}
+use Rattle.tape.specs.Read.{refuses, opens}
+use Rattle.tape.proofs.Accepts.{Sure}
 use Rattle.message.specs.Message.{flat, headed, allowedIn, messageBefore, messageOver}
 
 module _ (b : List ℕ) (limit : ℕ) (c : Cache) (s : List ℕ) where

@@ -1,13 +1,12 @@
 -- What is asked plainly allows what document 01 does, and whatever is asked, texts are read. Assumes nothing.
 use Prim.Native.Nat.{ℕ, zero, suc, _/_, _%_, _^_}
-use native.Mathlib.Omega.{arith}
 use native.Mathlib.Nat.{zero-div}
 use mathlib.Core.Path.{_≡_, refl, ap, fun-ext}
 use mathlib.Core.Bool.{Bool, true, false}
 use mathlib.Core.List.{List, [], _∷_}
 use lib.ListN.{getD}
 use Rattle.numbers.specs.Bits.{bit}
-use Rattle.numbers.specs.Allowed.{Allowed, plain}
+use Rattle.numbers.specs.Allowed.{plain}
 use Rattle.reading.specs.declared.Answer.{Answer}
 use Rattle.reading.specs.Answer.{readBy, readAt}
 use Rattle.reading.specs.Asked.{allowedOf, limitOf, plainly}

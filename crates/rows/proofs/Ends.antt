@@ -10,7 +10,7 @@ use lib.Dec.{leb, eqb}
 use lib.ListN.{length, getD, take, drop, length-take}
 use lib.Seq.{take-take, take-nil, drop-nil, getD-take}
 use Rattle.numbers.specs.Caps as cap
-use Rattle.numbers.specs.Allowed.{Allowed, plain}
+use Rattle.numbers.specs.Allowed.{Allowed}
 use Rattle.fields.specs.Be.{be, beAt}
 use Rattle.fields.specs.Field.{holds, fieldAt}
 use Rattle.fields.specs.declared.Field.{Field}

@@ -1,37 +1,33 @@
 -- What a promise of reading says, behind whatever stands before the term: which inputs are accepted, by the layouts alone; what the tape of an
 -- accepted one is; and that the promise leaves no choice. Then the same of a record. Assumes nothing.
-use Prim.Native.Nat.{ℕ, suc, _+_, _-_, _*_, _≤_}
+use Prim.Native.Nat.{ℕ, _+_, _-_, _*_, _≤_}
 use native.Mathlib.Omega.{arith}
 use mathlib.Core.Path.{_≡_, refl, ap, sym, subst, _∙_}
 use mathlib.Core.Logic.{_↔_}
-use mathlib.Core.List.{List, [], _∷_, _++_}
+use mathlib.Core.List.{List, [], _++_}
 use mathlib.Core.Bool.{Bool, true, false, cond}
 use lib.Dec.{ltb, eqb}
-use lib.ListN.{length, getD, take, drop, length-append, length-take, length-drop, take-append-drop}
+use lib.ListN.{length, take, drop, length-append, length-take, length-drop, take-append-drop}
 use lib.Seq.{take-all, take-length, take-append-seam, drop-append-seam, drop-at}
 use borrow.Author.Tests.{ltb-false, eqb-true, eqb-false, eq-eqb}
 use Rattle.numbers.specs.Caps as cap
 use Rattle.numbers.specs.Numbers as number
 use Rattle.numbers.specs.Numbers.{among, Listed}
-use Rattle.numbers.specs.Allowed.{Allowed, plain}
+use Rattle.numbers.specs.Allowed.{Allowed}
 use Rattle.numbers.proofs.Laws.{outcome, Shown, listed-some, listed-shown, by-test}
 use Rattle.reading.specs.declared.Answer.{Answer}
-use Rattle.reading.specs.declared.Start.{Start}
-use Rattle.reading.specs.declared.Start.the-variants as start
-use Rattle.reading.specs.Answer.{starts, refusal, readBy}
-use Rattle.reading.proofs.Answers.{starts-reads, starts-on, read-short}
+use Rattle.reading.specs.Answer.{refusal, readBy}
+use Rattle.reading.proofs.Answers.{read-short}
 use Rattle.reading.proofs.Bounds.{bounded}
 use Rattle.reading.proofs.Bounds as bounds
-use Rattle.reading.proofs.Outcomes.{cause-listed, read-shown}
+use Rattle.reading.proofs.Outcomes.{read-shown}
 use Rattle.layouts.specs.Tree.{Tree, Stands, bytes, size, depth}
-use Rattle.layouts.specs.Layout.{Laid}
-use Rattle.layouts.proofs.Stands.{right}
 use Rattle.accepts.proofs.Accepts.{read-sound, read-complete}
 use Rattle.tape.specs.Cells.{cellWords, words, taped}
-use Rattle.tape.specs.Read.{Before, refuses, opens, ended, wholeFrom, readBehind, startsBefore, version, recordBefore, readAll, Accepted, Promised}
+use Rattle.tape.specs.Read.{Before, refuses, opens, ended, wholeFrom, readBehind, Accepted, Promised}
 use Rattle.tape.specs.Spans.{Nested, OnePerTerm, startAt, endAt}
 use Rattle.tape.proofs.Words.{words-length}
-use Rattle.tape.proofs.Reading.{behind-no, behind-term, whole-done, before-term, behind-131}
+use Rattle.tape.proofs.Reading.{whole-done}
 use Rattle.tape.proofs.Spans as spans
 
 -- a test on the way to a Done answer: what it must have said, and what is left

@@ -16,7 +16,7 @@ use Rattle.reading.specs.declared.Answer.{Answer}
 use Rattle.reading.specs.declared.Cause.{Cause}
 use Rattle.reading.specs.declared.Cause.the-variants as cause
 use Rattle.reading.specs.declared.Start.the-variants as start
-use Rattle.reading.specs.Answer.{numberOf, refusal, early, starts, readBy}
+use Rattle.reading.specs.Answer.{numberOf, refusal, starts, readBy}
 use Rattle.reading.proofs.Answers.{starts-on, read-short}
 use Rattle.layouts.specs.Tree.{Tree, Stands, bytes, size}
 use Rattle.accepts.proofs.Accepts.{read-sound}
@@ -24,10 +24,10 @@ use Rattle.layouts.proofs.Shapes.{unique}
 use Rattle.tape.specs.Cells.{cellWords, words, taped}
 use Rattle.tape.specs.declared.Ended.{Ended}
 use Rattle.tape.specs.declared.Ended.the-variants as ended
-use Rattle.tape.specs.Inner.Fill.{Good, Filled, lay}
+use Rattle.tape.specs.Inner.Fill.{Good, lay}
 use Rattle.tape.specs.Inner.End.{endedBy, Came, Leaves}
 use Rattle.tape.specs.Read as read
-use Rattle.tape.specs.Read.{Before, refuses, opens, wholeFrom, readBehind, startsBefore, version, recordBefore, readAll, Promised}
+use Rattle.tape.specs.Read.{Before, refuses, opens, wholeFrom, readBehind, startsBefore, version, recordBefore, Promised}
 use Rattle.tape.proofs.Words.{words-length}
 use Rattle.tape.proofs.Filling.{size-bytes}
 

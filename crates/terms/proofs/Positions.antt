@@ -1,9 +1,9 @@
 -- An atom by its position, as the six words ask for it: one law for each way that its row can go. Assumes nothing.
 use Prim.Native.Nat.{ℕ, _+_, _/_, _%_, _^_, _≤_, _<_}
 use native.Mathlib.Omega.{arith}
-use mathlib.Core.Path.{_≡_, refl, ap, sym, _∙_}
+use mathlib.Core.Path.{_≡_, sym}
 use mathlib.Core.List.{List}
-use mathlib.Core.Bool.{true, false}
+use mathlib.Core.Bool.{true}
 use lib.ListN.{length, getD, take}
 use lib.Seq.{getD-take}
 use borrow.Author.Tests.{eq-eqb, ne-eqb}
