@@ -1,4 +1,4 @@
--- One character at the front of a list of bytes: what its bytes are by their number, and that such bytes are one. Assumes nothing.
+-- One character at the front of a list of bytes: what its bytes are by their number. Assumes nothing.
 use Prim.Native.Nat.{ℕ, _+_, _-_, _/_, _%_, _<_, _≤_}
 use native.Mathlib.Nat.{add-zero, div-div-eq-div-mul}
 use native.Mathlib.Omega.{arith}
@@ -12,7 +12,7 @@ use lib.ListN.{length, getD, drop, length-drop}
 use lib.Seq.{getD-drop}
 use Rattle.utf8.specs.Unicode.{scalar, encode}
 use Rattle.utf8.specs.Inner.Find.{decode}
-use Rattle.utf8.specs.Inner.Check.{Begins, Char, none, one, Six, bits, other}
+use Rattle.utf8.specs.Inner.Check.{Begins, Char, one}
 
 -- the four rows of Unicode's Table 3-6
 pub encode-1 : (c : ℕ) → c < 0x80 → encode c ≡ c ∷ []
@@ -44,7 +44,7 @@ pub apart : (c : ℕ) → scalar c ≡ true → 0xD800 ≤ c → c < 0xE000 → 
 unfolding scalar
 apart c e l h = let f : _≡_ {A = Bool} false true = rw (le-ltb c 0xD800 l, lt-ltb c 0xE000 h) at e in let z : _≡_ {A = ℕ} 0 1 = cc in omega arith
 
-top : (c : ℕ) → scalar c ≡ true → c ≤ 0x10FFFF
+pub top : (c : ℕ) → scalar c ≡ true → c ≤ 0x10FFFF
 unfolding scalar
 top c e = go (ltb c 0xE000) refl
   where
@@ -90,18 +90,6 @@ at-first s i = getD-drop i s 0 0 ∙ ap (λ (n : ℕ). getD s n 0) (add-zero i)
 firsts-1 : (s : List ℕ) → 1 ≤ length s → s ≡ getD s 0 0 ∷ drop 1 s
 firsts-1 [] h = absurd (omega arith)
 firsts-1 (a ∷ s) h = refl
-
-firsts-2 : (s : List ℕ) → 2 ≤ length s → s ≡ getD s 0 0 ∷ getD s 1 0 ∷ drop 2 s
-firsts-2 [] h = absurd (omega arith)
-firsts-2 (a ∷ s) h = ap (λ (l : List ℕ). a ∷ l) (firsts-1 s (omega arith))
-
-firsts-3 : (s : List ℕ) → 3 ≤ length s → s ≡ getD s 0 0 ∷ getD s 1 0 ∷ getD s 2 0 ∷ drop 3 s
-firsts-3 [] h = absurd (omega arith)
-firsts-3 (a ∷ s) h = ap (λ (l : List ℕ). a ∷ l) (firsts-2 s (omega arith))
-
-firsts-4 : (s : List ℕ) → 4 ≤ length s → s ≡ getD s 0 0 ∷ getD s 1 0 ∷ getD s 2 0 ∷ getD s 3 0 ∷ drop 4 s
-firsts-4 [] h = absurd (omega arith)
-firsts-4 (a ∷ s) h = ap (λ (l : List ℕ). a ∷ l) (firsts-3 s (omega arith))
 
 -- which of them a character is goes by its value
 module _ (s : List ℕ) (i : ℕ) where
@@ -167,50 +155,11 @@ module _ (s : List ℕ) (i : ℕ) where
   pub not-end : Begins (drop i s) → i < length s
   not-end b = ⊎-elim (λ w. omega arith) (⊎-elim (λ w. omega arith) (⊎-elim (λ w. omega arith) (λ w. omega arith))) (cases b)
 
-  -- so the lead byte tells the number of bytes, and what isn't of that form is no character
-  pub no-two : 0x80 ≤ getD s i 0 → getD s i 0 < 0xE0 → ((c : ℕ) → Two s i c → ⊥) → Char (drop i s) 0
-  no-two l h never =
-      none refl λ b. ⊎-elim (λ w. omega arith) (⊎-elim (never (b .char)) (⊎-elim (λ w. omega arith) (λ w. omega arith))) (cases b)
-
-  pub no-three : 0xE0 ≤ getD s i 0 → getD s i 0 < 0xF0 → ((c : ℕ) → Three s i c → ⊥) → Char (drop i s) 0
-  no-three l h never =
-      none refl λ b. ⊎-elim (λ w. omega arith) (⊎-elim (λ w. omega arith) (⊎-elim (never (b .char)) (λ w. omega arith))) (cases b)
-
-  pub no-four : 0xF0 ≤ getD s i 0 → ((c : ℕ) → Four s i c → ⊥) → Char (drop i s) 0
-  no-four l never =
-      none refl λ b. ⊎-elim (λ w. omega arith) (⊎-elim (λ w. omega arith) (⊎-elim (λ w. omega arith) (never (b .char)))) (cases b)
-
-  -- and what is of that form is one
+  -- a byte of ASCII is one
   pub is-one : i + 1 ≤ length s → getD s i 0 < 0x80 → Char (drop i s) 1
   is-one l h =
       one (omega arith) (from-left l) (getD s i 0) (below (omega arith))
       (firsts-1 (drop i s) (from-left l) ∙ rw (encode-1 (getD s i 0) h, at-first s i))
-
-  pub is-two : (c : ℕ) → Two s i c → Char (drop i s) 2
-  is-two c t =
-      one (omega arith) (from-left (t .long)) (c) (below (omega arith))
-      (firsts-2 (drop i s) (from-left (t .long)) ∙ rw (encode-2 (c) (t .low) (t .high), at-first s i, getD-drop i s 1 0, t .lead, t .last))
-
-  pub is-three : (c : ℕ) → Three s i c → Char (drop i s) 3
-  is-three c t =
-      one (omega arith) (from-left (t .long)) (c) (t .good)
-      (firsts-3 (drop i s) (from-left (t .long))
-      ∙ rw (encode-3 (c) (t .low) (t .high), at-first s i, getD-drop i s 1 0, getD-drop i s 2 0, t .lead, t .next, t .last))
-
-  pub is-four : (c : ℕ) → Four s i c → Char (drop i s) 4
-  is-four c t =
-      one (omega arith) (from-left (t .long)) (c) (above (omega arith) (t .high))
-      (firsts-4 (drop i s) (from-left (t .long))
-      ∙ rw (encode-4 (c) (t .low), at-first s i, getD-drop i s 1 0, getD-drop i s 2 0, getD-drop i s 3 0, t .lead, t .next, t .third, t .last))
-
--- a byte behind the lead
-pub six-bits : {x r : ℕ} → Six x r → (r ≡ 64 → ⊥) → (x ≡ 0x80 + r) × (r < 64)
-six-bits (bits e h) n = (e, h)
-six-bits (other e h) n = absurd (n e)
-
-pub six-none : {x r : ℕ} → Six x r → r ≡ 64 → (k : ℕ) → x ≡ 0x80 + k % 64 → ⊥
-six-none (bits e h) n k d = omega arith
-six-none (other e h) n k d = ⊎-elim (λ w. omega arith) (λ w. omega arith) h
 
 -- a character's value is what `decode` makes of its bytes
 pub decoded : {s : List ℕ} (b : Begins s) → b .char ≡ decode (getD s 0 0) (getD s 1 0) (getD s 2 0) (getD s 3 0)

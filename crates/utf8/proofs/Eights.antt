@@ -1,6 +1,6 @@
 -- Bytes taken as one number, the first worth least, and the bit that no byte of ASCII has. Assumes nothing.
 use Prim.Native.Nat.{ℕ, zero, suc, _+_, _*_, _-_, _/_, _%_, _^_, _<_, _≤_}
-use native.Mathlib.Nat.{add-comm, mul-assoc, pow-suc, mod-eq-of-lt, add-mul-mod-self-right}
+use native.Mathlib.Nat.{lt-of-le-of-lt, add-comm, mul-assoc, pow-suc, mod-lt, mod-mod, mod-eq-of-lt, mul-mod-left, add-mul-mod-self-right}
 use native.Mathlib.Omega.{arith}
 use mathlib.Core.Path.{_≡_, refl, ap, sym, _∙_, subst}
 use mathlib.Core.Logic.{_↔_}
@@ -8,7 +8,9 @@ use mathlib.Core.List.{List, [], _∷_, _++_}
 use mathlib.Core.Bool.{Bool, true, false, _&&_}
 use borrow.Author.Tests.{eq-eqb, eqb-true, leb-true, leb-false, ltb-true, ltb-false}
 use lib.Dec.{eqb, ltb, leb}
-use lib.Bits.{bitAnd, and-high, and-block, and-zero-l}
+use lib.Bits.{bitAnd, and-high, and-block, and-zero-l, and-mod, and-le-l}
+use lib.Count.{trailingZeros, under, trailing-le}
+use lib.Pow.{pow-pos, pow-add}
 use lib.ListN.{length, getD, take, drop, length-drop, take-append-drop}
 use lib.Seq.{length-take-le, take-add, drop-drop, drop-cons, take-take, getD-take, getD-drop}
 use Rattle.utf8.specs.Inner.Check.{Plain, Run, le, leAt}
@@ -120,6 +122,56 @@ module _ (s : List ℕ) (i : ℕ) (h : Bytes s) where
         λ t. law .0 (ap (λ (x : ℕ). bitAnd x 0x8080808080808080) (sym e) ∙ eqb-true _ _ t),
         λ p. eq-eqb _ _ (ap (λ (x : ℕ). bitAnd x 0x8080808080808080) e ∙ law .1 p),
       )
+
+-- a number with t zeros at its end is a multiple of 2 ^ t
+zeros : (k n t : ℕ) → t ≤ trailingZeros k n → (q : ℕ) × (n ≡ q * 2 ^ t)
+unfolding trailingZeros
+zeros k n zero h = (n, omega arith)
+zeros zero n (suc t) h = absurd (omega arith)
+zeros (suc k) n (suc t) h = go (n % 2) refl h (zeros k (n / 2) t)
+  where
+    go : (d : ℕ) → n % 2 ≡ d → suc t ≤ under d (trailingZeros k (n / 2)) → (t ≤ trailingZeros k (n / 2) → (q : ℕ) × (n / 2 ≡ q * 2 ^ t)) → (q : ℕ) × (n ≡ q * 2 ^ suc t)
+    go zero e l later = let r = later (omega arith) in (r .0, rw (pow-suc 2 t, ← mul-assoc (r .0) (2 ^ t) 2) (omega (arith, r .1)))
+    go (suc d) e l later = absurd (omega arith)
+
+places : (n : ℕ) → 256 ^ n ≡ 2 ^ (8 * n)
+places zero = refl
+places (suc n) =
+    let e : 8 * n + 8 ≡ 8 * suc n = omega arith in
+    pow-suc 256 n ∙ ap (λ (m : ℕ). m * 256) (places n) ∙ sym (pow-add 2 (8 * n) 8) ∙ ap (λ (m : ℕ). 2 ^ m) e
+
+-- the bytes of eight that stand before the lowest high bit that is set
+module _ (s : List ℕ) (i : ℕ) (h : Bytes s) (w : i + 8 ≤ length s) where
+  low-front : (n : ℕ) → n ≤ 8 → bitAnd (leAt 8 s i) 0x8080808080808080 % 2 ^ (8 * n) ≡ 0 → Plain s i (i + n)
+  low-front n l e = front-plain s i h n l (omega arith) .0 none
+    where
+      place : ℕ
+      place = 2 ^ (8 * n)
+
+      part : leAt n s i ≡ leAt 8 s i % place
+      part = sym (first-of-eight s i h n l w) ∙ ap (λ (m : ℕ). leAt 8 s i % m) (places n)
+
+      small : leAt 8 s i % place < place
+      small = mod-lt (leAt 8 s i) (pow-pos (8 * n))
+
+      masked : ℕ
+      masked = bitAnd (leAt 8 s i % place) 0x8080808080808080
+
+      none : bitAnd (leAt n s i) 0x8080808080808080 ≡ 0
+      none =
+          ap (λ (m : ℕ). bitAnd m 0x8080808080808080) part
+          ∙ sym (mod-eq-of-lt (lt-of-le-of-lt (and-le-l (leAt 8 s i % place) 0x8080808080808080) small))
+          ∙ and-mod (leAt 8 s i % place) 0x8080808080808080 (8 * n)
+          ∙ ap (λ (m : ℕ). bitAnd m (0x8080808080808080 % place)) (mod-mod (leAt 8 s i) place)
+          ∙ sym (and-mod (leAt 8 s i) 0x8080808080808080 (8 * n)) ∙ e
+
+  -- the code's count of them
+  pub counted : (r : ℕ) → r ≡ leAt 8 s i → Plain s i (i + trailingZeros 64 (bitAnd r 0x8080808080808080) / 8)
+  counted r e =
+      let t = trailingZeros 64 (bitAnd r 0x8080808080808080) in
+      let q = zeros 64 (bitAnd r 0x8080808080808080) (8 * (t / 8)) (omega arith) in
+      low-front (t / 8) (omega (arith, trailing-le 64 (bitAnd r 0x8080808080808080)))
+      (ap (λ (m : ℕ). bitAnd m 0x8080808080808080 % 2 ^ (8 * (t / 8))) (sym e) ∙ ap (λ (m : ℕ). m % 2 ^ (8 * (t / 8))) (q .1) ∙ mul-mod-left (q .0) (2 ^ (8 * (t / 8))))
 
 -- the code's 256 ^ n
 pub shifted : (n : ℕ) → n < 8 → 1 * 2 ^ (8 * n) % 18446744073709551616 ≡ 256 ^ n

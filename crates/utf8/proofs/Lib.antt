@@ -1,5 +1,8 @@
 pub mod Chars
 pub mod Runs
+pub mod Table
+pub mod ByRows
+pub mod Tried
 pub mod Eights
 pub mod Meaning
 pub mod Unique

@@ -2,3 +2,4 @@
 -- to believe it.
 pub mod Check
 pub mod Find
+pub mod Table

@@ -1,18 +1,24 @@
 // UTF-8, as Unicode defines it: how many leading bytes of a text form whole good characters, and a short way for ASCII.
 //
-// A text is good where its good bytes are all of it. The check computes code points, as specs/Unicode.antt speaks of them; runs of
-// ASCII are passed 32 bytes at a time, what is left of them by eights. It stands where decoder.rs (michaelklishin/edp-rs, fc07dcb95d)
-// calls std::str::from_utf8.
+// A text is good where its good bytes are all of it. The check goes by the rows of Unicode's table of byte ranges, which stand in `rows` for
+// comparing with the printed page (docs/UTF8.md); the promises speak of code points (specs/Unicode.antt), and proofs/Table.antt has that both
+// describe the same. Runs of ASCII are passed 32 bytes at a time, what is left of them by eights. It stands where decoder.rs
+// (michaelklishin/edp-rs, fc07dcb95d) calls std::str::from_utf8.
 ghost use mathlib.Core.Path.{_≡_};
 ghost use mathlib.Core.Logic.{_↔_};
 ghost use mathlib.Core.Bool.{true};
 ghost use Prim.Native.Nat.{_+_, _^_, _<_, _≤_};
-ghost use lib.ListN.{length, getD, drop};
+ghost use mathlib.Core.List.{[], _∷_};
+ghost use lib.ListN.{length, drop};
 ghost use Rattle.utf8.specs.Inner.Find.{goodBytes};
-ghost use Rattle.utf8.specs.Inner.Check.{Plain, Run, leAt, Char, Six};
+ghost use Rattle.utf8.specs.Inner.Check.{Plain, Run, leAt, Char};
+ghost use Rattle.utf8.specs.Inner.Table.{_to_, table, has, undecided, tried, byRows};
 
 // The bit that no byte of ASCII has, in each of eight bytes.
 const HIGH: u64 = 0x8080808080808080;
+
+// Said of a character's length where no row that was looked at has its first byte.
+const UNDECIDED: usize = 5;
 
 // How many leading bytes of s form whole good characters.
 pub fn good(s: &[u8]) -> usize
@@ -92,7 +98,8 @@ fn plain_end(s: &[u8], from: usize) -> usize
     i
 }
 
-// As many eights of such a run as there are. Blocks are looked for only behind a first eight: most runs in a short text have none.
+// As many eights of such a run as there are, and what the eight behind them has of it. Blocks are looked for only behind a first eight: most
+// runs in a short text have none.
 fn eights_end(s: &[u8], from: usize) -> usize
     requires { ⌜ from ≤ length (now s) ⌝ }
     ensures { λ r. ⌜ Plain (now (s .entry)) from r ⌝ }
@@ -101,12 +108,12 @@ fn eights_end(s: &[u8], from: usize) -> usize
         return from;
     }
     if !low8(s, from) {
-        return from;
+        return from + low_front(s, from);
     }
     let mut i = blocks_end(s, from + 8);
     while 8 <= s.len() - i {
         if !low8(s, i) {
-            return i;
+            return i + low_front(s, i);
         }
         i += 8;
     }
@@ -144,6 +151,14 @@ fn low8(b: &[u8], at: usize) -> bool
     le8(b, at) & HIGH == 0
 }
 
+// How many of eight bytes stand before the first that isn't ASCII: its bit is the lowest one set.
+fn low_front(b: &[u8], at: usize) -> usize
+    requires { ⌜ at + 8 ≤ length (now b) ⌝ }
+    ensures { λ r. ⌜ Plain (now (b .entry)) at (at + r) ⌝ }
+{
+    (u64::trailing_zeros(le8(b, at) & HIGH) / 8) as usize
+}
+
 // Two, four and eight bytes as a number, the first worth least: one load.
 fn le2(b: &[u8], at: usize) -> u64
     requires { ⌜ at + 2 ≤ length (now b) ⌝ }
@@ -177,109 +192,120 @@ fn char_at(s: &[u8], i: usize) -> usize
     requires { ⌜ i < length (now s) ⌝ }
     ensures { λ r. ⌜ Char (drop i (now (s .entry))) r ⌝ }
 {
-    let lead = s[i];
-    if lead < 0x80 {
+    let n = rows(s, i);
+    if n == UNDECIDED {
+        return 0;
+    }
+    n
+}
+
+// Unicode's Table 3-7, Well-Formed UTF-8 Byte Sequences: its nine rows in its order, a row to a line. Behind n, which is what the rows above
+// have told, stand the lowest and the highest value of the first byte, of the second, of the third and of the fourth.
+fn rows(s: &[u8], i: usize) -> usize
+    requires { ⌜ i < length (now s) ⌝ }
+    ensures { λ r. ⌜ r ≡ byRows undecided table (drop i (now (s .entry))) ⌝ }
+{
+    let n = row1(s, i, UNDECIDED, 0x00, 0x7F);
+    let n = row2(s, i, n, 0xC2, 0xDF, 0x80, 0xBF);
+    let n = row3(s, i, n, 0xE0, 0xE0, 0xA0, 0xBF, 0x80, 0xBF);
+    let n = row3(s, i, n, 0xE1, 0xEC, 0x80, 0xBF, 0x80, 0xBF);
+    let n = row3(s, i, n, 0xED, 0xED, 0x80, 0x9F, 0x80, 0xBF);
+    let n = row3(s, i, n, 0xEE, 0xEF, 0x80, 0xBF, 0x80, 0xBF);
+    let n = row4(s, i, n, 0xF0, 0xF0, 0x90, 0xBF, 0x80, 0xBF, 0x80, 0xBF);
+    let n = row4(s, i, n, 0xF1, 0xF3, 0x80, 0xBF, 0x80, 0xBF, 0x80, 0xBF);
+    let n = row4(s, i, n, 0xF4, 0xF4, 0x80, 0x8F, 0x80, 0xBF, 0x80, 0xBF);
+    n
+}
+
+// A row of one byte, of two, three and four. Where the rows above haven't decided, the first byte tells whether it is this row, and then this
+// row decides: it answers its length, or 0 where the other bytes aren't there or not within their ranges.
+fn row1(s: &[u8], i: usize, n: usize, l1: u8, h1: u8) -> usize
+    requires { ⌜ i < length (now s) ⌝ }
+    ensures { λ r. ⌜ r ≡ tried n ((l1 to h1) ∷ []) (drop i (now (s .entry))) ⌝ }
+{
+    if n != UNDECIDED {
+        return n;
+    }
+    if within(s[i], l1, h1) {
         return 1;
     }
-    if lead < 0xE0 {
-        return two(s, i);
-    }
-    if lead < 0xF0 {
-        return three(s, i);
-    }
-    four(s, i)
+    UNDECIDED
 }
 
-// The bits of a byte behind the lead, which is 80 to BF, or 64 for any other byte.
-fn six(x: u8) -> u32
-    ensures { λ r. ⌜ Six x r ⌝ }
+fn row2(s: &[u8], i: usize, n: usize, l1: u8, h1: u8, l2: u8, h2: u8) -> usize
+    requires { ⌜ i < length (now s) ⌝ }
+    ensures { λ r. ⌜ r ≡ tried n ((l1 to h1) ∷ (l2 to h2) ∷ []) (drop i (now (s .entry))) ⌝ }
 {
-    if x < 0x80 {
-        return 64;
+    if n != UNDECIDED {
+        return n;
     }
-    if 0xBF < x {
-        return 64;
+    if !within(s[i], l1, h1) {
+        return UNDECIDED;
     }
-    x as u32 - 0x80
+    if s.len() < i + 2 {
+        return 0;
+    }
+    if within(s[i + 1], l2, h2) {
+        return 2;
+    }
+    0
 }
 
-fn two(s: &[u8], i: usize) -> usize
-    requires { ⌜ (i < length (now s)) × ((128 ≤ getD (now s) i 0) × (getD (now s) i 0 < 224)) ⌝ }
-    ensures { λ r. ⌜ Char (drop i (now (s .entry))) r ⌝ }
+fn row3(s: &[u8], i: usize, n: usize, l1: u8, h1: u8, l2: u8, h2: u8, l3: u8, h3: u8) -> usize
+    requires { ⌜ i < length (now s) ⌝ }
+    ensures { λ r. ⌜ r ≡ tried n ((l1 to h1) ∷ (l2 to h2) ∷ (l3 to h3) ∷ []) (drop i (now (s .entry))) ⌝ }
 {
-    if s.len() - i < 2 {
+    if n != UNDECIDED {
+        return n;
+    }
+    if !within(s[i], l1, h1) {
+        return UNDECIDED;
+    }
+    if s.len() < i + 3 {
         return 0;
     }
-    let lead = s[i];
-    let x = six(s[i + 1]);
-    if lead < 0xC0 {
-        return 0;
-    }
-    if x == 64 {
-        return 0;
-    }
-    let c = (lead as u32 - 0xC0) * 64 + x;
-    if c < 0x80 {
-        return 0;
-    }
-    2
-}
-
-fn three(s: &[u8], i: usize) -> usize
-    requires { ⌜ (i < length (now s)) × ((224 ≤ getD (now s) i 0) × (getD (now s) i 0 < 240)) ⌝ }
-    ensures { λ r. ⌜ Char (drop i (now (s .entry))) r ⌝ }
-{
-    if s.len() - i < 3 {
-        return 0;
-    }
-    let lead = s[i];
-    let x = six(s[i + 1]);
-    let y = six(s[i + 2]);
-    if x == 64 {
-        return 0;
-    }
-    if y == 64 {
-        return 0;
-    }
-    let c = (lead as u32 - 0xE0) * 4096 + x * 64 + y;
-    if c < 0x800 {
-        return 0;
-    }
-    if c < 0xD800 {
+    if within(s[i + 1], l2, h2) & within(s[i + 2], l3, h3) {
         return 3;
     }
-    if c < 0xE000 {
-        return 0;
-    }
-    3
+    0
 }
 
-fn four(s: &[u8], i: usize) -> usize
-    requires { ⌜ (i < length (now s)) × (240 ≤ getD (now s) i 0) ⌝ }
-    ensures { λ r. ⌜ Char (drop i (now (s .entry))) r ⌝ }
+fn row4(
+    s: &[u8],
+    i: usize,
+    n: usize,
+    l1: u8,
+    h1: u8,
+    l2: u8,
+    h2: u8,
+    l3: u8,
+    h3: u8,
+    l4: u8,
+    h4: u8,
+) -> usize
+    requires { ⌜ i < length (now s) ⌝ }
+    ensures { λ r. ⌜ r ≡ tried n ((l1 to h1) ∷ (l2 to h2) ∷ (l3 to h3) ∷ (l4 to h4) ∷ []) (drop i (now (s .entry))) ⌝ }
 {
-    if s.len() - i < 4 {
+    if n != UNDECIDED {
+        return n;
+    }
+    if !within(s[i], l1, h1) {
+        return UNDECIDED;
+    }
+    if s.len() < i + 4 {
         return 0;
     }
-    let lead = s[i];
-    let x = six(s[i + 1]);
-    let y = six(s[i + 2]);
-    let z = six(s[i + 3]);
-    if x == 64 {
-        return 0;
+    if within(s[i + 1], l2, h2) & within(s[i + 2], l3, h3) & within(s[i + 3], l4, h4) {
+        return 4;
     }
-    if y == 64 {
-        return 0;
+    0
+}
+
+fn within(x: u8, low: u8, high: u8) -> bool
+    ensures { λ r. ⌜ r ≡ has (low to high) x ⌝ }
+{
+    if x < low {
+        return false;
     }
-    if z == 64 {
-        return 0;
-    }
-    let c = (lead as u32 - 0xF0) * 262144 + x * 4096 + y * 64 + z;
-    if c < 0x10000 {
-        return 0;
-    }
-    if 0x10FFFF < c {
-        return 0;
-    }
-    4
+    x <= high
 }

@@ -23,8 +23,14 @@ returns c = plain-none _ _ (omega arith)
 low8-requires : tie.Need-low8-requires Inv-loop μ-loop
 low8-requires c κs = omega arith
 
+low-front-requires : tie.Need-low-front-requires Inv-loop μ-loop
+low-front-requires c κs = omega arith
+
+add-result : tie.Need-add-result Inv-loop μ-loop
+add-result c = omega (arith, c .low-front .ensures .within)
+
 returns-2 : tie.Need-returns-2 Inv-loop μ-loop
-returns-2 c = plain-none _ _ (omega arith)
+returns-2 c = c .low-front .ensures
 
 add-blocks-end : tie.Need-add-blocks-end Inv-loop μ-loop
 add-blocks-end c = omega arith
@@ -41,8 +47,14 @@ sub-loop c = omega arith
 low8-requires-2 : tie.Need-low8-requires-2 Inv-loop μ-loop
 low8-requires-2 c κs = omega arith
 
+low-front-requires-2 : tie.Need-low-front-requires-2 Inv-loop μ-loop
+low-front-requires-2 c κs = omega arith
+
+add-result-2 : tie.Need-add-result-2 Inv-loop μ-loop
+add-result-2 c = omega (arith, c .low-front2 .ensures .within)
+
 returns-3 : tie.Need-returns-3 Inv-loop μ-loop
-returns-3 c = c .before .before .before .loop .inv
+returns-3 c = plain-join (c .before .before .before .before .loop .inv) (c .low-front2 .ensures) (omega arith) (c .low-front2 .ensures .order)
 
 add-i : tie.Need-add-i Inv-loop μ-loop
 add-i c = omega arith
@@ -65,12 +77,16 @@ eights-end-spec =
     sub-if1
     returns
     low8-requires
+    low-front-requires
+    add-result
     returns-2
     add-blocks-end
     blocks-end-requires
     loop-holds
     sub-loop
     low8-requires-2
+    low-front-requires-2
+    add-result-2
     returns-3
     add-i
     loop-less

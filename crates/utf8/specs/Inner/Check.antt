@@ -1,7 +1,6 @@
 -- What the check's functions answer of bytes and of single characters.
 use Prim.Native.Nat.{ℕ, _+_, _*_, _<_, _≤_}
 use mathlib.Core.Path.{_≡_}
-use mathlib.Core.Logic.{_⊎_}
 use mathlib.Core.List.{List, [], _∷_, _++_}
 use mathlib.Core.Bool.{true}
 use lib.ListN.{length, getD, take, drop}
@@ -46,8 +45,3 @@ pub record Begins (s : List ℕ) : Type 0 where
 pub data Char (s : List ℕ) (n : ℕ) : Type 0 where
   none : n ≡ 0 → (Begins s → ⊥) → Char s n
   one : 0 < n → n ≤ length s → (c : ℕ) → scalar c ≡ true → s ≡ encode c ++ drop n s → Char s n
-
--- the six bits of a byte behind the lead, 80 to BF; 64 for any other
-pub data Six (x r : ℕ) : Type 0 where
-  bits : x ≡ 128 + r → r < 64 → Six x r
-  other : r ≡ 64 → (x < 128) ⊎ (192 ≤ x) → Six x r
