@@ -32,7 +32,7 @@ static uint32_t below(uint32_t n) { return (uint32_t)((draw() >> 32) * n >> 32);
 
 static void byte(uint32_t x) { text[len++] = (uint8_t)x; }
 
-// Where a row of Unicode's Table 3-7 begins or ends, for a lead or for a byte behind it, and what lies next to such a byte.
+// Where a row of Unicode's Table 3-7 begins or ends, for a lead or for a byte behind it, what lies next to such a byte, and a letter.
 static uint32_t bound(void) {
     static const uint8_t bounds[] = {0x00, 0x41, 0x7F, 0x80, 0x8F, 0x90, 0x9F, 0xA0, 0xBF, 0xC0, 0xC1, 0xC2, 0xDF,
                                      0xE0, 0xE1, 0xEC, 0xED, 0xEE, 0xEF, 0xF0, 0xF1, 0xF3, 0xF4, 0xF5, 0xFF};

@@ -11,8 +11,8 @@ use lib.Dec.{ltb, leb}
 use lib.ListN.{length, take, drop, take-append-drop}
 use Rattle.utf8.specs.Unicode.{encode}
 use Rattle.utf8.specs.Inner.Check.{Begins, Char, none, one}
-use Rattle.utf8.specs.Inner.Table.{Range, _to_, table, Fits, done, next, Listed, here, there, has, opens, fits, tried, byRows}
-use Rattle.utf8.proofs.Table.{listed, spelled}
+use Rattle.utf8.specs.Inner.Table.{Range, _to_, table, Fits, done, next, Listed, here, there, has, opens, fits, undecided, tried, byRows}
+use Rattle.utf8.proofs.Table.{listed, has-row}
 
 -- The rows rise by their first byte, so that it tells the row; and none is so long that its length would say `undecided`.
 data Rising : ℕ → List (List Range) → Type 0 where
@@ -52,10 +52,10 @@ unfolding has
 has-above {low} {high} {x} a b = rw (le-leb low x a, lt-leb x high b)
 
 -- what has been decided stays
-decided : (n : ℕ) (rows : List (List Range)) (s : List ℕ) → (n ≡ 5 → ⊥) → byRows n rows s ≡ n
+decided : (n : ℕ) (rows : List (List Range)) (s : List ℕ) → (n ≡ undecided → ⊥) → byRows n rows s ≡ n
 unfolding byRows tried
 decided n [] s h = refl
-decided n (row ∷ rows) s h = rw (ne-eqb n 5 h) (decided n rows s h)
+decided n (row ∷ rows) s h = rw (ne-eqb n undecided h) (decided n rows s h)
 
 -- a sequence of a row, at the front of a list
 fits-length : {row : List Range} {l : List ℕ} → Fits row l → length row ≡ length l
@@ -83,29 +83,29 @@ passed row (x ∷ l) t a d r = let h = no-lower d r in has-above (omega arith) (
 
 -- a row that hasn't the first byte is passed over, and one that has it decides
 module _ (row : List Range) (rows : List (List Range)) (s : List ℕ) where
-  pass : opens row s ≡ false → byRows 5 (row ∷ rows) s ≡ byRows 5 rows s
+  pass : opens row s ≡ false → byRows undecided (row ∷ rows) s ≡ byRows undecided rows s
   unfolding byRows tried
   pass e = rw e
 
-  take-it : opens row s ≡ true → fits row s ≡ true → (length row ≡ 5 → ⊥) → byRows 5 (row ∷ rows) s ≡ length row
+  take-it : opens row s ≡ true → fits row s ≡ true → (length row ≡ undecided → ⊥) → byRows undecided (row ∷ rows) s ≡ length row
   unfolding byRows tried
   take-it e f h = rw (e, f) (decided (length row) rows s h)
 
-  stop : opens row s ≡ true → fits row s ≡ false → byRows 5 (row ∷ rows) s ≡ 0
+  stop : opens row s ≡ true → fits row s ≡ false → byRows undecided (row ∷ rows) s ≡ 0
   unfolding byRows tried
   stop e f = rw (e, f) (decided 0 rows s (λ z. omega arith))
 
-found : {m : ℕ} {rows : List (List Range)} (l t : List ℕ) → Rising m rows → Listed rows l → byRows 5 rows (l ++ t) ≡ length l
+found : {m : ℕ} {rows : List (List Range)} (l t : List ℕ) → Rising m rows → Listed rows l → byRows undecided rows (l ++ t) ≡ length l
 unfolding opens fits
 found (x ∷ l) t (then {low = low} {high = high} {row = row} {rows = rows} a b c d) (here (next e f g)) =
     take-it ((low to high) ∷ row) rows (x ∷ (l ++ t)) (has-in e f) (fits-front t (next e f g)) (λ k. omega arith) ∙ ap suc (fits-length g)
 found l t (then {low = low} {high = high} {row = row} {rows = rows} a b c d) (there r) =
     pass ((low to high) ∷ row) rows (l ++ t) (passed row l t b d r) ∙ found l t d r
 
--- what going by the rows of a table tells: nothing, or that none of their sequences stands at the front, or one that does
+-- what going by the rows of a table answers: `undecided`, 0, or the length of a sequence of theirs that stands at the front
 data Told (rows : List (List Range)) (s : List ℕ) (n : ℕ) : Type 0 where
-  no : (n ≡ 5) ⊎ (n ≡ 0) → Told rows s n
-  yes : 0 < n → n < 5 → n ≤ length s → Listed rows (take n s) → Told rows s n
+  no : (n ≡ undecided) ⊎ (n ≡ 0) → Told rows s n
+  yes : 0 < n → n ≤ length s → Listed rows (take n s) → Told rows s n
 
 has-true : (low high x : ℕ) → has (low to high) x ≡ true → (low ≤ x) × (x ≤ high)
 unfolding has
@@ -121,7 +121,7 @@ fits-true ((low to high) ∷ row) (x ∷ s) e =
     let h = fits-true row s (f .1) in
     (omega (arith, h .0), next (g .0) (g .1) (h .1))
 
-told : {m : ℕ} {rows : List (List Range)} (s : List ℕ) → Rising m rows → Told rows s (byRows 5 rows s)
+told : {m : ℕ} {rows : List (List Range)} (s : List ℕ) → Rising m rows → Told rows s (byRows undecided rows s)
 unfolding byRows
 told s end = no (inl refl)
 told s (then {low = low} {high = high} {row = tail} {rows = rows} a b c d) = go (told s d) (opens row s) refl (fits row s) refl
@@ -131,43 +131,43 @@ told s (then {low = low} {high = high} {row = tail} {rows = rows} a b c d) = go 
 
     further : {n : ℕ} → Told rows s n → Told (row ∷ rows) s n
     further (no z) = no z
-    further (yes p q r f) = yes p q r (there f)
+    further (yes p q f) = yes p q (there f)
 
-    by : {n : ℕ} → byRows 5 (row ∷ rows) s ≡ n → Told (row ∷ rows) s n → Told (row ∷ rows) s (byRows 5 (row ∷ rows) s)
+    by : {n : ℕ} → byRows undecided (row ∷ rows) s ≡ n → Told (row ∷ rows) s n → Told (row ∷ rows) s (byRows undecided (row ∷ rows) s)
     by e k = subst (λ (n : ℕ). Told (row ∷ rows) s n) (sym e) k
 
-    go : Told rows s (byRows 5 rows s) → (t : Bool) → opens row s ≡ t → (u : Bool) → fits row s ≡ u → Told (row ∷ rows) s (byRows 5 (row ∷ rows) s)
+    go : Told rows s (byRows undecided rows s) → (t : Bool) → opens row s ≡ t → (u : Bool) → fits row s ≡ u → Told (row ∷ rows) s (byRows undecided (row ∷ rows) s)
     go later false e u f = by (pass row rows s e) (further later)
     go later true e true f =
         let g = fits-true row s f in
-        by (take-it row rows s e f (λ k. omega arith)) (yes (omega arith) (omega arith) (g .0) (here (g .1)))
+        by (take-it row rows s e f (λ k. omega arith)) (yes (omega arith) (g .0) (here (g .1)))
     go later true e false f = by (stop row rows s e f) (no (inr refl))
 
 longer : (l : List ℕ) → Listed table l → 0 < length l
 longer [] r = absurd (not-empty table-rises r)
 longer (x ∷ l) r = omega arith
 
-shorter : {m : ℕ} {rows : List (List Range)} {l : List ℕ} → Rising m rows → Listed rows l → length l < 5
+shorter : {m : ℕ} {rows : List (List Range)} {l : List ℕ} → Rising m rows → Listed rows l → length l < undecided
 shorter (then a b c d) (here (next e f g)) = omega (arith, fits-length g)
 shorter (then a b c d) (there r) = shorter d r
 
 -- so going by the table finds the character that stands at the front, or that there is none
 module _ (s : List ℕ) where
-  stands : Begins s → (0 < byRows 5 table s) × (byRows 5 table s < 5)
+  stands : Begins s → (0 < byRows undecided table s) × (byRows undecided table s < undecided)
   stands b =
-      let r = spelled (b .char) (b .good) in
-      let e = ap (byRows 5 table) (b .is) ∙ found (encode (b .char)) (b .rest) table-rises r in
+      let r = has-row (b .char) (b .good) in
+      let e = ap (byRows undecided table) (b .is) ∙ found (encode (b .char)) (b .rest) table-rises r in
       (omega (arith, longer _ r, e), omega (arith, shorter table-rises r, e))
 
-  pub not-listed : byRows 5 table s ≡ 5 → Char s 0
+  pub not-listed : byRows undecided table s ≡ undecided → Char s 0
   not-listed e = none refl (λ b. omega (arith, stands b .1))
 
-  pub by-table : (byRows 5 table s ≡ 5 → ⊥) → Char s (byRows 5 table s)
-  by-table h = go (byRows 5 table s) refl h (told s table-rises)
+  pub by-table : (byRows undecided table s ≡ undecided → ⊥) → Char s (byRows undecided table s)
+  by-table h = go (byRows undecided table s) refl h (told s table-rises)
     where
-      go : (n : ℕ) → byRows 5 table s ≡ n → (n ≡ 5 → ⊥) → Told table s n → Char s n
+      go : (n : ℕ) → byRows undecided table s ≡ n → (n ≡ undecided → ⊥) → Told table s n → Char s n
       go n e k (no (inl z)) = absurd (k z)
       go n e k (no (inr z)) = none z (λ b. omega (arith, stands b .0))
-      go n e k (yes p q w r) =
+      go n e k (yes p w r) =
           let f = listed (take n s) r in
           one p w (f .char) (f .good) (sym (take-append-drop n s) ∙ ap (λ (l : List ℕ). l ++ drop n s) (f .is))

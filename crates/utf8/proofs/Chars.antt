@@ -53,20 +53,19 @@ top c e = go (ltb c 0xE000) refl
     go false f = omega (arith, ltb-true c 0x110000 (rw (le-ltb c 0xD800 (omega (arith, ltb-false c 0xE000 f)), f) at e))
 
 -- the bytes from i on are those of a character of one, two, three or four bytes
-pub record One (s : List ℕ) (i char : ℕ) : Type 0 where
+record One (s : List ℕ) (i char : ℕ) : Type 0 where
   pub low : char < 0x80
   pub long : i + 1 ≤ length s
   pub lead : getD s i 0 ≡ char
 
-pub record Two (s : List ℕ) (i char : ℕ) : Type 0 where
+record Two (s : List ℕ) (i char : ℕ) : Type 0 where
   pub low : 0x80 ≤ char
   pub high : char < 0x800
   pub long : i + 2 ≤ length s
   pub lead : getD s i 0 ≡ 0xC0 + char / 64
   pub last : getD s (i + 1) 0 ≡ 0x80 + char % 64
 
-pub record Three (s : List ℕ) (i char : ℕ) : Type 0 where
-  pub good : scalar char ≡ true
+record Three (s : List ℕ) (i char : ℕ) : Type 0 where
   pub low : 0x800 ≤ char
   pub high : char < 0x10000
   pub long : i + 3 ≤ length s
@@ -74,9 +73,8 @@ pub record Three (s : List ℕ) (i char : ℕ) : Type 0 where
   pub next : getD s (i + 1) 0 ≡ 0x80 + char / 64 % 64
   pub last : getD s (i + 2) 0 ≡ 0x80 + char % 64
 
-pub record Four (s : List ℕ) (i char : ℕ) : Type 0 where
+record Four (s : List ℕ) (i char : ℕ) : Type 0 where
   pub low : 0x10000 ≤ char
-  pub high : char ≤ 0x10FFFF
   pub long : i + 4 ≤ length s
   pub lead : getD s i 0 ≡ 0xF0 + char / 262144
   pub next : getD s (i + 1) 0 ≡ 0x80 + char / 4096 % 64
@@ -121,14 +119,13 @@ module _ (s : List ℕ) (i : ℕ) where
     cases-3 l h =
         let e = with-row (encode-3 (b .char) l h) in
         record
-        { good = b .good; low = l; high = h; long = omega (arith, long e); lead = first e; next = byte 1 e; last = byte 2 e }
+        { low = l; high = h; long = omega (arith, long e); lead = first e; next = byte 1 e; last = byte 2 e }
 
     cases-4 : 0x10000 ≤ b .char → Four s i (b .char)
     cases-4 l =
         let e = with-row (encode-4 (b .char) l) in
         record {
           low = l;
-          high = top (b .char) (b .good);
           long = omega (arith, long e);
           lead = first e;
           next = byte 1 e;
@@ -136,7 +133,7 @@ module _ (s : List ℕ) (i : ℕ) where
           last = byte 3 e;
         }
 
-    pub cases : One s i (b .char) ⊎ (Two s i (b .char) ⊎ (Three s i (b .char) ⊎ Four s i (b .char)))
+    cases : One s i (b .char) ⊎ (Two s i (b .char) ⊎ (Three s i (b .char) ⊎ Four s i (b .char)))
     cases = go (ltb (b .char) 0x80) refl
       where
         go₃ : 0x800 ≤ b .char → (t : Bool) → ltb (b .char) 0x10000 ≡ t → Three s i (b .char) ⊎ Four s i (b .char)

@@ -10,7 +10,7 @@ use borrow.Author.Tests.{eq-eqb, eqb-true, leb-true, leb-false, ltb-true, ltb-fa
 use lib.Dec.{eqb, ltb, leb}
 use lib.Bits.{bitAnd, and-high, and-block, and-zero-l, and-mod, and-le-l}
 use lib.Count.{trailingZeros, under, trailing-le}
-use lib.Pow.{pow-pos, pow-add}
+use lib.Pow.{pow-pos, pow-lt, pow-add}
 use lib.ListN.{length, getD, take, drop, length-drop, take-append-drop}
 use lib.Seq.{length-take-le, take-add, drop-drop, drop-cons, take-take, getD-take, getD-drop}
 use Rattle.utf8.specs.Inner.Check.{Plain, Run, le, leAt}
@@ -154,9 +154,6 @@ module _ (s : List ℕ) (i : ℕ) (h : Bytes s) (w : i + 8 ≤ length s) where
       small : leAt 8 s i % place < place
       small = mod-lt (leAt 8 s i) (pow-pos (8 * n))
 
-      masked : ℕ
-      masked = bitAnd (leAt 8 s i % place) 0x8080808080808080
-
       none : bitAnd (leAt n s i) 0x8080808080808080 ≡ 0
       none =
           ap (λ (m : ℕ). bitAnd m 0x8080808080808080) part
@@ -175,15 +172,9 @@ module _ (s : List ℕ) (i : ℕ) (h : Bytes s) (w : i + 8 ≤ length s) where
 
 -- the code's 256 ^ n
 pub shifted : (n : ℕ) → n < 8 → 1 * 2 ^ (8 * n) % 18446744073709551616 ≡ 256 ^ n
-shifted zero h = refl
-shifted (suc zero) h = refl
-shifted (suc (suc zero)) h = refl
-shifted (suc (suc (suc zero))) h = refl
-shifted (suc (suc (suc (suc zero)))) h = refl
-shifted (suc (suc (suc (suc (suc zero))))) h = refl
-shifted (suc (suc (suc (suc (suc (suc zero)))))) h = refl
-shifted (suc (suc (suc (suc (suc (suc (suc zero))))))) h = refl
-shifted (suc (suc (suc (suc (suc (suc (suc (suc n)))))))) h = absurd (omega arith)
+shifted n h =
+    let e : 1 * 2 ^ (8 * n) ≡ 2 ^ (8 * n) = omega arith in
+    ap (λ (m : ℕ). m % 2 ^ 64) e ∙ mod-eq-of-lt (pow-lt {i = 8 * n} {j = 64} (omega arith)) ∙ sym (places n)
 
 pub never : {P : Type 0} → false ≡ true → P
 never e = absurd (let z : _≡_ {A = ℕ} 0 1 = cc in omega arith)

@@ -1,7 +1,7 @@
 -- Unicode's table and Unicode's code points describe the same byte sequences: `same`. Assumes nothing.
 use Prim.Native.Nat.{ℕ, _+_, _*_, _-_, _/_, _%_, _<_, _≤_}
 use native.Mathlib.Omega.{arith}
-use mathlib.Core.Path.{_≡_, refl, ap, sym, _∙_, subst}
+use mathlib.Core.Path.{_≡_, refl, sym, _∙_, subst}
 use mathlib.Core.Logic.{_⊎_, inl, inr, ⊎-elim, _↔_}
 use mathlib.Core.List.{List, [], _∷_}
 use mathlib.Core.Bool.{Bool, true, false}
@@ -120,59 +120,51 @@ side c m = go (ltb c m) refl
     go true e = inl (ltb-true c m e)
     go false e = inr (ltb-false c m e)
 
+-- the constructors as functions, so that what is expected tells a row's ranges
+byte : {low high x : ℕ} {row : List Range} {l : List ℕ} → low ≤ x → x ≤ high → Fits row l → Fits ((low to high) ∷ row) (x ∷ l)
+byte a b f = next a b f
+
+this : {row : List Range} {rows : List (List Range)} {l : List ℕ} → Fits row l → Listed (row ∷ rows) l
+this f = here f
+
+later : {row : List Range} {rows : List (List Range)} {l : List ℕ} → Listed rows l → Listed (row ∷ rows) l
+later r = there r
+
 module _ (c : ℕ) where
-  byte : (x : ℕ) {low high : ℕ} {row : List Range} {l : List ℕ} → low ≤ x → x ≤ high → Fits row l → Fits ((low to high) ∷ row) (x ∷ l)
-  byte x a b f = next a b f
-
-  last : Fits ((0x80 to 0xBF) ∷ []) ((0x80 + c % 64) ∷ [])
-  last = byte _ (omega arith) (omega arith) done
-
-  last-two : Fits ((0x80 to 0xBF) ∷ (0x80 to 0xBF) ∷ []) ((0x80 + c / 64 % 64) ∷ (0x80 + c % 64) ∷ [])
-  last-two = byte _ (omega arith) (omega arith) last
-
   spelled-1 : c < 0x80 → Listed table (c ∷ [])
   unfolding table
-  spelled-1 h = here row
-    where
-      row : Fits ((0x00 to 0x7F) ∷ []) (c ∷ [])
-      row = byte _ (omega arith) (omega arith) done
+  spelled-1 h = this (byte (omega arith) (omega arith) done)
 
   spelled-2 : 0x80 ≤ c → c < 0x800 → Listed table ((0xC0 + c / 64) ∷ (0x80 + c % 64) ∷ [])
   unfolding table
-  spelled-2 l h = there (here row)
-    where
-      row : Fits ((0xC2 to 0xDF) ∷ (0x80 to 0xBF) ∷ []) ((0xC0 + c / 64) ∷ (0x80 + c % 64) ∷ [])
-      row = byte _ (omega arith) (omega arith) last
+  spelled-2 l h = later (this (byte (omega arith) (omega arith) (byte (omega arith) (omega arith) done)))
+
+  last : Fits ((0x80 to 0xBF) ∷ []) ((0x80 + c % 64) ∷ [])
+  last = byte (omega arith) (omega arith) done
 
   spelled-3 : 0x800 ≤ c → c < 0x10000 → scalar c ≡ true → Listed table ((0xE0 + c / 4096) ∷ (0x80 + c / 64 % 64) ∷ (0x80 + c % 64) ∷ [])
   unfolding table
   spelled-3 l h g =
-      ⊎-elim (λ a. there (there (here (row (omega arith) (omega arith) (omega arith) (omega arith)))))
-      (λ a. ⊎-elim (λ b. there (there (there (here (row (omega arith) (omega arith) (omega arith) (omega arith))))))
-      (λ b. ⊎-elim (λ d. there (there (there (there (here (row (omega arith) (omega arith) (omega arith) (omega arith)))))))
+      ⊎-elim (λ a. later (later (this (byte (omega arith) (omega arith) (byte (omega arith) (omega arith) last)))))
+      (λ a. ⊎-elim (λ b. later (later (later (this (byte (omega arith) (omega arith) (byte (omega arith) (omega arith) last))))))
+      (λ b. ⊎-elim (λ d. later (later (later (later (this (byte (omega arith) (omega arith) (byte (omega arith) (omega arith) last)))))))
       (λ d. ⊎-elim (λ k. absurd (apart c g d k))
-      (λ k. there (there (there (there (there (here (row (omega arith) (omega arith) (omega arith) (omega arith))))))))
+      (λ k. later (later (later (later (later (this (byte (omega arith) (omega arith) (byte (omega arith) (omega arith) last))))))))
       (side c 0xE000)) (side c 0xD800)) (side c 0xD000)) (side c 0x1000)
-    where
-      row : {p q r t : ℕ} → p ≤ 0xE0 + c / 4096 → 0xE0 + c / 4096 ≤ q → r ≤ 0x80 + c / 64 % 64 → 0x80 + c / 64 % 64 ≤ t
-          → Fits ((p to q) ∷ (r to t) ∷ (0x80 to 0xBF) ∷ []) ((0xE0 + c / 4096) ∷ (0x80 + c / 64 % 64) ∷ (0x80 + c % 64) ∷ [])
-      row a b d e = next a b (next d e last)
+
+  last-two : Fits ((0x80 to 0xBF) ∷ (0x80 to 0xBF) ∷ []) ((0x80 + c / 64 % 64) ∷ (0x80 + c % 64) ∷ [])
+  last-two = byte (omega arith) (omega arith) last
 
   spelled-4 : 0x10000 ≤ c → c ≤ 0x10FFFF → Listed table ((0xF0 + c / 262144) ∷ (0x80 + c / 4096 % 64) ∷ (0x80 + c / 64 % 64) ∷ (0x80 + c % 64) ∷ [])
   unfolding table
   spelled-4 l h =
-      ⊎-elim (λ a. there (there (there (there (there (there (here (row (omega arith) (omega arith) (omega arith) (omega arith)))))))))
-      (λ a. ⊎-elim (λ b. there (there (there (there (there (there (there (here (row (omega arith) (omega arith) (omega arith) (omega arith))))))))))
-      (λ b. there (there (there (there (there (there (there (there (here (row (omega arith) (omega arith) (omega arith) (omega arith)))))))))))
+      ⊎-elim (λ a. later (later (later (later (later (later (this (byte (omega arith) (omega arith) (byte (omega arith) (omega arith) last-two)))))))))
+      (λ a. ⊎-elim (λ b. later (later (later (later (later (later (later (this (byte (omega arith) (omega arith) (byte (omega arith) (omega arith) last-two))))))))))
+      (λ b. later (later (later (later (later (later (later (later (this (byte (omega arith) (omega arith) (byte (omega arith) (omega arith) last-two)))))))))))
       (side c 0x100000)) (side c 0x40000)
-    where
-      row : {p q r t : ℕ} → p ≤ 0xF0 + c / 262144 → 0xF0 + c / 262144 ≤ q → r ≤ 0x80 + c / 4096 % 64 → 0x80 + c / 4096 % 64 ≤ t
-          → Fits ((p to q) ∷ (r to t) ∷ (0x80 to 0xBF) ∷ (0x80 to 0xBF) ∷ [])
-          ((0xF0 + c / 262144) ∷ (0x80 + c / 4096 % 64) ∷ (0x80 + c / 64 % 64) ∷ (0x80 + c % 64) ∷ [])
-      row a b d e = next a b (next d e last-two)
 
-  pub spelled : scalar c ≡ true → Listed table (encode c)
-  spelled g =
+  pub has-row : scalar c ≡ true → Listed table (encode c)
+  has-row g =
       ⊎-elim (λ h. rw (encode-1 c h) (spelled-1 h))
       (λ l. ⊎-elim (λ h. rw (encode-2 c l h) (spelled-2 l h))
       (λ m. ⊎-elim (λ h. rw (encode-3 c m h) (spelled-3 m h g))
@@ -181,4 +173,4 @@ module _ (c : ℕ) where
 
 -- the table and the code points describe the same byte sequences
 pub same : (l : List ℕ) → Listed table l ↔ Encoded l
-same l = (listed l, λ e. subst (λ (m : List ℕ). Listed table m) (sym (e .is)) (spelled (e .char) (e .good)))
+same l = (listed l, λ e. subst (λ (m : List ℕ). Listed table m) (sym (e .is)) (has-row (e .char) (e .good)))

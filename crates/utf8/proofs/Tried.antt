@@ -5,10 +5,10 @@ use mathlib.Core.Path.{_≡_, refl, ap, ap₂, sym, _∙_}
 use mathlib.Core.List.{List, [], _∷_}
 use mathlib.Core.Bool.{Bool, true, false, _&&_, and-true, and-assoc}
 use borrow.Author.Tests.{le-leb, lt-leb, eq-eqb, ne-eqb}
-use lib.Dec.{leb, eqb}
+use lib.Dec.{leb}
 use lib.ListN.{length, getD, drop, length-drop}
 use lib.Seq.{drop-cons}
-use Rattle.utf8.specs.Inner.Table.{Range, _to_, has, opens, fits, tried, byRows}
+use Rattle.utf8.specs.Inner.Table.{Range, _to_, has, opens, fits, undecided, tried, byRows}
 use Rattle.utf8.proofs.ByRows.{fits-true}
 
 -- the code's test of a byte
@@ -21,9 +21,9 @@ unfolding has
 from-low low high x h = rw (le-leb low x h)
 
 -- what the rows before have decided stays
-pub kept : (n : ℕ) (row : List Range) (s : List ℕ) → (n ≡ 5 → ⊥) → n ≡ tried n row s
+pub kept : (n : ℕ) (row : List Range) (s : List ℕ) → (n ≡ undecided → ⊥) → n ≡ tried n row s
 unfolding tried
-kept n row s h = rw (ne-eqb n 5 h)
+kept n row s h = rw (ne-eqb n undecided h)
 
 module _ (s : List ℕ) (i : ℕ) where
   from : i < length s → drop i s ≡ getD s i 0 ∷ drop (i + 1) s
@@ -42,22 +42,22 @@ module _ (s : List ℕ) (i : ℕ) where
       go true e = absurd (let l = simp length-drop at (fits-true row (drop i s) e .0) in omega arith)
       go false e = e
 
-  module _ (n : ℕ) (range : Range) (row : List Range) (h : i < length s) (e : n ≡ 5) where
+  module _ (n : ℕ) (range : Range) (row : List Range) (h : i < length s) (e : n ≡ undecided) where
     opens-on : opens (range ∷ row) (drop i s) ≡ has range (getD s i 0)
     unfolding opens
     opens-on = ap (opens (range ∷ row)) (from h)
 
-    pub another : has range (getD s i 0) ≡ false → 5 ≡ tried n (range ∷ row) (drop i s)
+    pub another : has range (getD s i 0) ≡ false → undecided ≡ tried n (range ∷ row) (drop i s)
     unfolding tried
-    another f = rw (eq-eqb n 5 e, opens-on, f)
+    another f = rw (eq-eqb n undecided e, opens-on, f)
 
     pub taken : has range (getD s i 0) ≡ true → fits row (drop (i + 1) s) ≡ true → suc (length row) ≡ tried n (range ∷ row) (drop i s)
     unfolding tried
-    taken f g = rw (eq-eqb n 5 e, opens-on, fits-on range row h, f, g)
+    taken f g = rw (eq-eqb n undecided e, opens-on, fits-on range row h, f, g)
 
     pub refused : has range (getD s i 0) ≡ true → fits row (drop (i + 1) s) ≡ false → 0 ≡ tried n (range ∷ row) (drop i s)
     unfolding tried
-    refused f g = rw (eq-eqb n 5 e, opens-on, fits-on range row h, f, g)
+    refused f g = rw (eq-eqb n undecided e, opens-on, fits-on range row h, f, g)
 
 -- a row of one byte has no others
 pub all : (s : List ℕ) → fits [] s ≡ true

@@ -39,7 +39,7 @@ pub data Listed : List (List Range) → List ℕ → Type 0 where
 unfoldable pub has : Range → ℕ → Bool
 has (low to high) x = leb low x && leb x high
 
--- whether a row has the first byte of s, and whether it has as many of them as it is long
+-- whether the first byte of s lies in a row's first range; and whether the front of s, as many bytes as the row has ranges, is of the row
 unfoldable pub opens : List Range → List ℕ → Bool
 opens [] s = false
 opens (range ∷ row) [] = false
