@@ -1,5 +1,8 @@
 // What a request line asks (docs/REQUESTS.md): its first word, its numbers, and the bytes that its last word spells. What is answered is left
 // to others, but for the answer to a line that asks nothing.
+
+#![tactic(auto)]
+
 mod words;
 
 ghost use Rattle.std.specs.Prelude.{◌≡◌, ◌≤◌, length};

@@ -5,6 +5,9 @@
 //
 // Changed from AtomCache in decoder.rs (michaelklishin/edp-rs, fc07dcb95d),
 // Copyright (C) 2025-2026 Michael S. Klishin and Contributors, Apache-2.0: see NOTICE.
+
+#![tactic(auto)]
+
 ghost use Rattle.std.specs.Prelude.{◌≡◌, ◌≤◌, replicate};
 ghost use Rattle.std.specs.Int.Count as bits;
 ghost use Rattle.cache.specs.Names as spec;

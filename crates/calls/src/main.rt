@@ -3,6 +3,9 @@
 // The oracle answers the same lines from the Rust, so that a comparison is two runs and a diff. Whole lines are taken from what is read,
 // each is answered, and what is left of the last one is kept until more is read. Every line has one answer, the last one also where it
 // has no end of line. What a line asks is in asking, what is answered in naming, telling, taping, messaging and writing.
+
+#![tactic(auto)]
+
 ghost use Rattle.std.specs.Prelude.{◌<◌};
 
 use asking::Over;

@@ -6,6 +6,8 @@
 //
 // Changed from the uses of nom's be_u8, be_u16, be_u32, be_u64, be_i32 and take in decoder.rs (michaelklishin/edp-rs, fc07dcb95d),
 // Copyright (C) 2025-2026 Michael S. Klishin and Contributors, Apache-2.0: see NOTICE.
+#![tactic(auto)]
+
 ghost use Rattle.std.specs.Prelude.{◌≡◌, ◌+◌, ◌<◌, ◌≤◌, length};
 ghost use Rattle.fields.specs.Be.{be_at, signed};
 ghost use Rattle.fields.specs.Field.{holds, field_at, integer_at, number_at};

@@ -4,6 +4,9 @@
 //
 // Changed from decode_fragment_header and decode_fragment_cont in decoder.rs (michaelklishin/edp-rs, fc07dcb95d),
 // Copyright (C) 2025-2026 Michael S. Klishin and Contributors, Apache-2.0: see NOTICE.
+
+#![tactic(auto)]
+
 ghost use Rattle.std.specs.Prelude.{◌≡◌};
 ghost use Rattle.fragments.specs.Fragment as spec;
 ghost use Rattle.fragments.specs.Inner.Opening as inner;

@@ -5,6 +5,9 @@
 //
 // Changed from parse_dist_header_with_cache in decoder.rs (michaelklishin/edp-rs, fc07dcb95d),
 // Copyright (C) 2025-2026 Michael S. Klishin and Contributors, Apache-2.0: see NOTICE.
+
+#![tactic(auto)]
+
 ghost use Rattle.std.specs.Prelude.{◌≡◌, cond, ◌+◌, ◌/◌, ◌<◌, ◌≤◌, length};
 ghost use Rattle.references.specs.Header.{references};
 ghost use Rattle.names.specs.Form.{over};

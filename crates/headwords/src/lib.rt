@@ -1,4 +1,7 @@
 // A head told as numbers, in the order that a program in another language gets them.
+
+#![tactic(auto)]
+
 ghost use Rattle.std.specs.Prelude.{◌≡◌, cond};
 ghost use Rattle.heads.specs.Inner.Run.{run_of, placed};
 ghost use Rattle.headwords.specs.Words.{twos, head_words, part_words};

@@ -1,6 +1,9 @@
 // Standard input, for the programs that take a whole input of a bounded length.
 //
 // What can't be read is told apart from the input's end, so that no program answers about a part. What a program says then is in `print`.
+
+#![tactic(auto)]
+
 use libc::STDIN_FILENO;
 
 // Instead of a number of bytes: reading failed.

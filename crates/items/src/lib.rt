@@ -2,6 +2,9 @@
 //
 // Both are told from a head's words, which headwords has in order: number, tag, offset, extra and five fields, from place 4 on. How they are
 // told stands in a table: by the tag, as the letter that it is in ASCII, the form that print fills with the words.
+
+#![tactic(auto)]
+
 ghost use Rattle.std.specs.Prelude.{◌≤◌, ◌+◌, length};
 
 use fields::Field;

@@ -2,6 +2,9 @@
 //
 // It stands over all that reads and writes, and judges nothing itself. A call's promise is that of the call beneath it; specs/ says, in one definition
 // for each kind of answer, how the answer becomes numbers. jig/sillthread.h is the same page for a C program.
+
+#![tactic(auto)]
+
 ghost use Rattle.std.specs.Prelude.{◌≡◌, ◌≤◌, length, replicate};
 ghost use Rattle.std.proofs.lemmas.List.Edits.{sets};
 ghost use Rattle.numbers.specs.Caps as cap;

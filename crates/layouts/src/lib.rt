@@ -2,6 +2,9 @@
 //
 // It knows no reader: what reading accepts is held against it in `accepts`. What writes the tape and what walks over a map's entries stand
 // over it: they know that their input is good, so that they look at a term's tag and counts and at nothing else.
+
+#![tactic(auto)]
+
 ghost use Rattle.std.specs.Prelude.{◌≡◌};
 ghost use Rattle.layouts.specs.Inner.Shape.{ends, inner, shape_at, short_at};
 

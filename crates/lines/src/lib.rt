@@ -1,5 +1,8 @@
 // Standard input as lines, for the programs: a lent buffer that is filled behind what was kept of an unfinished line. What stands in it and isn't
 // taken yet lies between `from` and `end`. Both functions take any buffer and any places.
+
+#![tactic(auto)]
+
 ghost use Rattle.std.specs.Prelude.{◌≤◌, ◌+◌, ◌-◌, length};
 
 // Where the line that begins at `from` ends, `end` where it has no end of line before that.

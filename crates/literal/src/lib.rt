@@ -3,6 +3,9 @@
 // It rests on nothing; whether the text is UTF-8, and what number it says, is for others.
 // Changed from `parse_old_float_borrowed` of decoder.rs (michaelklishin/edp-rs, fc07dcb95d).
 // Copyright (C) 2025-2026 Michael S. Klishin and Contributors, Apache-2.0, see NOTICE.
+
+#![tactic(auto)]
+
 ghost use Rattle.std.specs.Prelude.{◌≡◌};
 ghost use Rattle.literal.specs.Inner.Trim.{trimmed};
 ghost use Rattle.literal.specs.Inner.Parse.{after_sign, is_digit, after_digits, is_cased, is_word, is_ending, is_number, is_literal};

@@ -2,6 +2,9 @@
 //
 // It stands over terms, which reads the map whole and judges it, and over layouts, which says where the parts of a good term lie. So the
 // walk over the entries judges nothing: it passes each term once, and compares each key.
+
+#![tactic(auto)]
+
 ghost use Rattle.std.specs.Prelude.{◌≡◌, ◌+◌, ◌-◌, ◌≤◌, length, take, drop};
 ghost use Rattle.lookup.specs.Lookup.{Looked};
 ghost use Rattle.lookup.specs.Inner.Found.{same_bytes};

@@ -2,6 +2,9 @@
 //
 // A row is a run of numbers, three to an item: its kind and two fields. It is gone through once, from the front, with what is open in a
 // fixed run of numbers: no call nests.
+
+#![tactic(auto)]
+
 ghost use Rattle.std.specs.Prelude.{◌≡◌, ◌+◌, ◌≤◌, length, if◌then◌else◌, nat_le, unsigned_abs};
 ghost use Rattle.fields.specs.Be.{digits_of};
 ghost use Rattle.measure.specs.Item.{signed64, text_at, item_of, items_of};

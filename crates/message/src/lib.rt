@@ -2,6 +2,9 @@
 //
 // The header's names go into the same cache by `header`, and its positions are noted by `positions`; the term is read by `tape`, with the atoms of tag
 // 82 whose positions are known. Nothing is read here: this puts them in their order (specs/Message.antt).
+
+#![tactic(auto)]
+
 ghost use Rattle.std.specs.Prelude.{◌≡◌, ◌≤◌, length, []};
 ghost use Rattle.numbers.specs.Caps as cap;
 ghost use Rattle.references.specs.declared.Opening.TheVariants as opening;

@@ -1,6 +1,9 @@
 // A message, a header and one term, read over the names and with its tape, as text (docs/REQUESTS.md). What a request asks is in asking, how the
 // names are handed on in naming, how an answer with its tape is told in taping. It takes any store and runs; what is printed is held against
 // stored output by the programs' tests.
+
+#![tactic(auto)]
+
 use asking::Asked;
 use cache::Cache;
 use naming::Reached;

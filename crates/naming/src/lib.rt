@@ -1,6 +1,9 @@
 // The requests about the names that headers bring (docs/REQUESTS.md), and their answers as text. The names are handed on with each answer: their
 // record by value, and the store that belongs to it is lent. So is the run in which the last message's positions are noted. All take any store
 // and run; what is printed is held against stored output by the programs' tests.
+
+#![tactic(auto)]
+
 use asking::Asked;
 use cache::{Cache, Got};
 

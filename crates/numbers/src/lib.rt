@@ -1,6 +1,8 @@
 // The numbers the jig shows, the caps of the format, and the two limits of ours: each by name, once in code and once in definitions
 // (specs/), under the same name. It knows no other crate, and every other may know it.
 
+#![tactic(auto)]
+
 // What a call answers (document 01, "Numbers the jig shows", and document 02): Done, or a refusal.
 pub const DONE: u64 = 0;
 

@@ -1,4 +1,7 @@
 // A refusal's path as text, for the programs that show answers. What is printed is held against stored output by the programs' tests.
+
+#![tactic(auto)]
+
 ghost use Rattle.std.specs.Prelude.{◌≤◌};
 ghost use Rattle.numbers.specs.Caps as cap;
 

@@ -4,6 +4,9 @@
 // of the last header are kept in a run of 256 bytes that the caller lends: byte 0 is how many references it has, byte 1 + k the slot of
 // reference k. `note` writes it for a header that was accepted; the other calls ask it, and what they answer is what the slot holds when they
 // are called, so after the whole header.
+
+#![tactic(auto)]
+
 ghost use Rattle.std.specs.Prelude.{◌≡◌, cond, List, ℕ, ◌<◌, length};
 ghost use Rattle.numbers.specs.Bits.{bit};
 ghost use Rattle.references.specs.Header.{references, reference_at, slots_of};

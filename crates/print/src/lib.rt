@@ -6,6 +6,9 @@
 //
 // A failure is final. What can't be written is said once, and FAILED is answered instead of a number of bytes: who gets it adds nothing, writes
 // nothing and answers it again.
+
+#![tactic(auto)]
+
 ghost use Rattle.std.specs.Prelude.{◌≤◌, ◌+◌, length};
 
 use libc::{STDERR_FILENO, STDOUT_FILENO};

@@ -4,6 +4,9 @@
 //
 // Changed from ParsingContext and the errors of decoder.rs (michaelklishin/edp-rs, fc07dcb95d),
 // Copyright (C) 2025-2026 Michael S. Klishin and Contributors, Apache-2.0: see NOTICE.
+
+#![tactic(auto)]
+
 ghost use Rattle.std.specs.Prelude.{◌≡◌, [], ◌<◌};
 ghost use Rattle.reading.specs.Terms as terms;
 ghost use Rattle.reading.specs.Answer as def;

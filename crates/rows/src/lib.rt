@@ -2,6 +2,9 @@
 //
 // Changed from the leaf readers of decoder.rs (parse_integer_borrowed to parse_large_big_borrowed; michaelklishin/edp-rs, fc07dcb95d),
 // Copyright (C) 2025-2026 Michael S. Klishin and Contributors, Apache-2.0: see NOTICE.
+
+#![tactic(auto)]
+
 ghost use Rattle.std.specs.Prelude.{◌≡◌};
 ghost use Rattle.numbers.specs.Caps as cap;
 ghost use Rattle.rows.specs.Row as row;

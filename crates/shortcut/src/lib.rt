@@ -1,4 +1,7 @@
 // The short way to the end of the commonest rows without children, where they are well: what is found so is what `rows` says.
+
+#![tactic(auto)]
+
 ghost use Rattle.std.specs.Prelude.{◌≡◌, ◌+◌, ◌≤◌, length};
 ghost use Rattle.shortcut.specs.Inner.Short as short;
 

@@ -2,6 +2,9 @@
 //
 // At most 65,536 bytes are read, with a nesting limit of 64 and room for 3,276 cells. Longer input is answered as number 10. Input that
 // can't be read to its end has no answer: that is said on standard error, as is an output that fails. ./showterm ends with a status then.
+
+#![tactic(auto)]
+
 ghost use Rattle.std.specs.Prelude.{◌≤◌, ◌*◌, ◌+◌, length};
 ghost use Rattle.tape.specs.Cells.{cell_words};
 

@@ -4,6 +4,8 @@
 // whether those that are left are a number text (1) or not (0). Longer input is answered as number 10, as the jig's calls do. Input that
 // can't be read to its end has no answer: that is said on standard error, as is an output that fails. ./showtext ends with a status then.
 
+#![tactic(auto)]
+
 fn main() {
     let mut input = [0u8; 65537];
     let mut out = io::buffer();

@@ -1,5 +1,8 @@
 // What the programs share that run a function over all short texts: the texts by their numbers, and rows of answers, each a byte, that
 // are printed without loss but short, as runs. What the answers are, and over which texts, is for the programs.
+
+#![tactic(auto)]
+
 ghost use Rattle.std.specs.Prelude.{◌≤◌, ◌<◌, length};
 
 // Puts a number's digits into a text from `from` to `end`, the last worth least. Its base is how many digits there are.

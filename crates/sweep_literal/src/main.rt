@@ -4,6 +4,9 @@
 // The file `stdout` beside src/ is what Rust's own reading prints in the same form, so that a run holds literal::trim and
 // literal::literal to it. Of the texts the accepted ones are printed. Of a word a row is a list of answers, over the patterns or over
 // the changed byte.
+
+#![tactic(auto)]
+
 ghost use Rattle.std.specs.Prelude.{◌≡◌, ◌≤◌, ◌<◌, length};
 
 fn main() {

@@ -2,6 +2,9 @@
 //
 // The file `stdout` beside src/ is what Rust's own check prints in the same form, so that a run holds utf8::good to it. A row is the list
 // of the answers over the last byte; it is printed, behind the bytes before that, where it differs from the row before it.
+
+#![tactic(auto)]
+
 ghost use Rattle.std.specs.Prelude.{◌≡◌, ◌*◌, ◌≤◌, ◌<◌, length};
 
 fn main() {

@@ -3,6 +3,9 @@
 // It stands over terms, which reads the record and judges it, and over layouts, which says where the children of a good term lie. So the
 // tape is written in a second pass, when it is known that the record is good and that there is room for it: nothing is judged twice, and
 // a refused read has written nothing.
+
+#![tactic(auto)]
+
 ghost use Rattle.std.specs.Prelude.{◌≡◌, ◌+◌, ◌*◌, ◌≤◌, length};
 ghost use Rattle.numbers.specs.Caps as cap;
 ghost use Rattle.tape.specs.Cells.{cell_words};

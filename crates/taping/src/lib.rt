@@ -1,5 +1,8 @@
 // A record read with its tape, as text (docs/REQUESTS.md): its value by its cells, or the cells themselves. What a request asks is in asking, what
 // an item says in items. It takes any run for the tape; what is printed is held against stored output by the programs' tests.
+
+#![tactic(auto)]
+
 ghost use Rattle.std.specs.Prelude.{◌*◌, ◌≤◌, length};
 ghost use Rattle.tape.specs.Cells.{cell_words};
 

@@ -1,6 +1,9 @@
 // What our calls answer on bytes alone (docs/REQUESTS.md), as text: terms, heads, keys, fragments and text. What a request asks is in asking;
 // those about names are left to naming, a record with its tape to taping, and rows to writing. What is printed is held against stored output by the
 // programs' tests.
+
+#![tactic(auto)]
+
 mod parts;
 
 use asking::{Asked, Line};

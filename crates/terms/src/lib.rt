@@ -7,6 +7,9 @@
 //
 // Changed from decode_borrowed and its readers in decoder.rs (michaelklishin/edp-rs, fc07dcb95d),
 // Copyright (C) 2025-2026 Michael S. Klishin and Contributors, Apache-2.0: see NOTICE.
+
+#![tactic(auto)]
+
 mod path;
 mod readers;
 mod steps;

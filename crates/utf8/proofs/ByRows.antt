@@ -63,10 +63,13 @@ fits-front t (next a b f) = rw (has_in a b) (fits-front t f)
 
 -- the first byte of a listed sequence is no lower than the rows', so that the rows before its own pass it over
 no_lower : {m x : ℕ} {rows : List (List Range)} {l : List ℕ} → Rising m rows → Listed rows (x ∷ l) → m ≤ x
+no_lower {l = l} (end {m = m}) r = elim r [ ]
 no_lower (then a b c d) (here (next e f g)) = omega arith
 no_lower (then a b c d) (there r) = let h = no_lower d r in omega arith
 
 not_empty : {m : ℕ} {rows : List (List Range)} → Rising m rows → Listed rows [] → ⊥
+not_empty (end {m = m}) r = elim r [ ]
+not_empty (then {m = m} {low = low} {high = high} {row = row} {rows = rows} a b c d) (here r) = elim r [ ]
 not_empty (then a b c d) (there r) = not_empty d r
 
 passed : {low high : ℕ} (row : List Range) {rows : List (List Range)} (l t : List ℕ) → low ≤ high → Rising (suc high) rows → Listed rows l
@@ -91,6 +94,8 @@ module _ (row : List Range) (rows : List (List Range)) (s : List ℕ) where
 
 found : {m : ℕ} {rows : List (List Range)} (l t : List ℕ) → Rising m rows → Listed rows l → by_rows undecided rows (l ++ t) ≡ length l
 unfolding opens fits
+found l t (end {m = m}) r = elim r [ ]
+found [] t (then {m = m} {low = low} {high = high} {row = row} {rows = rows} a b c d) (here r) = elim r [ ]
 found (x ∷ l) t (then {low = low} {high = high} {row = row} {rows = rows} a b c d) (here (next e f g)) =
     take_it ((low to high) ∷ row) rows (x ∷ (l ++ t)) (has_in e f) (fits-front t (next e f g)) (λ k. omega arith) ∙ ap suc (fits-length g)
 found l t (then {low = low} {high = high} {row = row} {rows = rows} a b c d) (there r) =
@@ -142,6 +147,7 @@ longer [] r = absurd (not_empty table-rises r)
 longer (x ∷ l) r = omega arith
 
 shorter : {m : ℕ} {rows : List (List Range)} {l : List ℕ} → Rising m rows → Listed rows l → length l < undecided
+shorter {l = l} (end {m = m}) r = elim r [ ]
 shorter (then a b c d) (here (next e f g)) = omega (arith, fits-length g)
 shorter (then a b c d) (there r) = shorter d r
 

@@ -4,6 +4,9 @@
 // comparing with the printed page (docs/UTF8.md); the promises speak of code points (specs/Unicode.antt), and proofs/Table.antt has that both
 // describe the same. Runs of ASCII are passed 32 bytes at a time, what is left of them by eights. It stands where decoder.rs
 // (michaelklishin/edp-rs, fc07dcb95d) calls std::str::from_utf8.
+
+#![tactic(auto)]
+
 ghost use Rattle.std.specs.Prelude.{◌≡◌, ◌+◌, ◌^◌, ◌<◌, ◌≤◌, true, ◌↔◌, [], ◌∷◌, length, drop};
 ghost use Rattle.utf8.specs.Inner.Find.{good_bytes};
 ghost use Rattle.utf8.specs.Inner.Check.{Plain, Run, le_at, Char};

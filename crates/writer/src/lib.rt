@@ -2,6 +2,9 @@
 //
 // It stands over measure, which judges the row and says how many bytes it needs. So the bytes are put in a second pass, when it is known that the
 // row is good and that there is room for it: nothing is judged twice, and a refused write has written nothing.
+
+#![tactic(auto)]
+
 ghost use Rattle.std.specs.Prelude.{◌≡◌, ◌+◌, ◌<◌, ◌≤◌, [], ◌∷◌, ◌++◌, length, take, drop};
 ghost use Rattle.fields.specs.Be.{bytes_of, digits_of};
 ghost use Rattle.measure.specs.Item as item;

@@ -1,5 +1,8 @@
 // Rows of items written into lent bytes (docs/REQUESTS.md): the bytes of a Done write, and how many of those behind them are as they were, as text.
 // What a request asks is in asking. It takes any memory; what is printed is held against stored output by the programs' tests.
+
+#![tactic(auto)]
+
 ghost use Rattle.std.specs.Prelude.{◌≤◌, length};
 
 use asking::Asked;

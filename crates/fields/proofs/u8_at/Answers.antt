@@ -1,0 +1,6 @@
+-- `fields::u8_at` meets its contract. Assumes nothing.
+use Rattle.fields.proofs.Inverse.{number_is}
+use Rattle.fields.proofs.u8_at.Goals as goal
+
+pub returns : goal.returns
+returns c = number_is 1 _ _ (λ i. (c.type_inv.b i).fits) c.be_u8.ensures c.known.ensures
