@@ -18,7 +18,7 @@ pub const SLOT_BYTES: usize = 256;
 pub const STORE_BYTES: usize = 65536;
 
 // Which slots are filled: bit i mod 64 of word i div 64.
-#[derive(Drop)]
+#[derive(Clone, Copy)]
 pub struct Cache {
     pub filled: [u64; 4],
 }

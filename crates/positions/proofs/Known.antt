@@ -9,7 +9,7 @@ use mathlib.Core.List.{List, ◌∷◌}
 use borrow.Author.Tests.{ltb-true, ltb-false}
 use lib.Dec.{ltb}
 use lib.ListN.{length, get_or, get_or-append}
-use lib.Seq.{sets_eq}
+use lib.Seq.{sets-eq}
 use Rattle.numbers.specs.Numbers as number
 use Rattle.names.specs.Form.{Held, is_name}
 use Rattle.names.specs.Positions.{known_at}
@@ -31,7 +31,7 @@ shows-name (named e) = refl
 module _ (slots run : List ℕ) (room : length slots < length run) where
   noted_byte : (k : ℕ) → k < suc (length slots) → get_or (noted slots run) k 0 ≡ get_or (length slots ∷ slots) k 0
   unfolding noted
-  noted_byte k h = rw (sets_eq (length slots ∷ slots) run 0 (omega arith)) (get_or-append (length slots ∷ slots) _ 0 k h)
+  noted_byte k h = rw (sets-eq (length slots ∷ slots) run 0 (omega arith)) (get_or-append (length slots ∷ slots) _ 0 k h)
 
   module _ (w s : List ℕ) (h : length s ≡ store_bytes) (k : ℕ) where
     pub past-list : length slots ≤ k → position_in w s (noted slots run) k ≡ got.No number.Absent

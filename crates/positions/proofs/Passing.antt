@@ -28,6 +28,7 @@ module _ (b : List ℕ) (new : Bool) (wide p : ℕ) (good : Good (reference_at b
       go : (r : Reference) → reference_at b new wide p ≡ r → Good r → (p < length b) × (p + 1 ≡ past p r)
       go (ref.Old slot) e g = ((first_byte b p (found_old b new wide p e).1).0, refl)
       go (ref.New slot at n) e g = absurd (true≢false (sym (found b new wide p e).flag ∙ f))
+      go (ref.No n x) e g = elim g [ ]
 
   -- the place behind a new one lies in the input
   pub past_new : new ≡ true → (p + 1 + wide + number_at wide b (p + 1) ≤ length b) × (p + 1 + wide + number_at wide b (p + 1) ≡ past p (reference_at b new wide p))
@@ -39,3 +40,4 @@ module _ (b : List ℕ) (new : Bool) (wide p : ℕ) (good : Good (reference_at b
       go (ref.New slot at n) e g =
           let h = found b new wide p e in
           rw (number_of wide b (p + 1) h.size) (omega (arith, h.place, h.inside), omega (arith, h.place))
+      go (ref.No n x) e g = elim g [ ]

@@ -2,7 +2,7 @@
 use Rattle.std.proofs.Common.{◌≡◌, ℕ, zero, suc, ◌+◌, ◌<◌, ◌≤◌, Bool, true, false, eqb, List, [], ◌∷◌, ◌++◌, length, get_or, drop, sym, refl, ap, ◌∙◌, subst, append_assoc, append-nil, arith, length-append, length-drop, drop-drop, eq-eqb, ne_eqb, eqb-true}
 use Rattle.utf8.specs.Unicode.{scalar, encode}
 use Rattle.utf8.specs.Inner.Find.{decode, starts, char_bytes, good_from, good_bytes}
-use Rattle.utf8.specs.Good.{spelled, none, more, Good}
+use Rattle.utf8.specs.Good.{spelled, more, Good}
 use Rattle.utf8.specs.Inner.Check as char
 use Rattle.utf8.specs.Inner.Check.{Begins, Char}
 use Rattle.utf8.proofs.Chars.{decoded, not_end}

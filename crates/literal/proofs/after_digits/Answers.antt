@@ -1,7 +1,6 @@
 -- `literal::after_digits` meets its contract. The loop's invariant: i is at most the length, and what follows the digits of the text follows those of
 -- the text from i on. The measure is what is left of the length. Assumes nothing.
 use mathlib.Core.Path.{refl, sym, ◌∙◌}
-use Prim.Native.Nat.{◌-◌}
 use native.Mathlib.Omega.{arith}
 use borrow.Author.Tests.{not-true, not-false}
 use Rattle.literal.proofs.Pieces as pieces

@@ -1,7 +1,6 @@
 -- `literal::word` meets its contract. The loop's invariant: i is at most the length, the two texts are as long, and the text is the word's where the
 -- letters from i on are. The measure is what is left of the length. Assumes nothing.
 use mathlib.Core.Path.{refl, sym, ◌∙◌}
-use Prim.Native.Nat.{◌-◌}
 use native.Mathlib.Omega.{arith}
 use borrow.Author.Tests.{not-true, not-false}
 use Rattle.literal.proofs.Pieces as pieces

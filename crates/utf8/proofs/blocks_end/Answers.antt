@@ -1,6 +1,6 @@
 -- `utf8::blocks_end` meets its contract. The loop's invariant: the bytes passed are plain. Assumes nothing.
 use borrow.Author.Tests.{not-false}
-use Rattle.std.proofs.Common.{◌-◌, arith}
+use Rattle.std.proofs.Common.{arith}
 use Rattle.utf8.proofs.Eights.{plain-none, plain_join}
 use Rattle.utf8.proofs.blocks_end.Goals as goal
 

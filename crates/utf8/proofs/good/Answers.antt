@@ -1,6 +1,6 @@
 -- `utf8::good` meets its contract. The loop's invariant: the bytes passed spell whole good characters. It ends where none stands, or at
 -- the end, and only `good_bytes` has both. The measure is what is left of the text. Assumes nothing.
-use Rattle.std.proofs.Common.{◌-◌, arith}
+use Rattle.std.proofs.Common.{arith}
 use Rattle.utf8.proofs.Unique.{good_unique}
 use Rattle.utf8.proofs.Meaning.{good-bytes}
 use Rattle.utf8.proofs.Runs.{none_yet, one_more, stuck-here, ascii_more, at-end, step, good-to}

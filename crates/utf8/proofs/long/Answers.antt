@@ -1,7 +1,7 @@
 -- `utf8::long` meets its contract. The loop's invariant: the bytes up to i are plain, and i isn't past the end. The last eight may
 -- overlap those. The measure is what is left before them. Assumes nothing.
 use borrow.Author.Tests.{not-true, not-false}
-use Rattle.std.proofs.Common.{ℕ, ◌-◌, sym, ◌∙◌, subst, arith}
+use Rattle.std.proofs.Common.{ℕ, sym, ◌∙◌, subst, arith}
 use Rattle.utf8.proofs.Eights.{never, plain-none, plain_join, plain-part}
 use Rattle.utf8.specs.Inner.Check.{Plain}
 use Rattle.utf8.proofs.long.Goals as goal

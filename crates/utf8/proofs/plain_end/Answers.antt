@@ -1,5 +1,5 @@
 -- `utf8::plain_end` meets its contract. The loop's invariant: the bytes passed are plain. Assumes nothing.
-use Rattle.std.proofs.Common.{◌-◌, arith}
+use Rattle.std.proofs.Common.{arith}
 use Rattle.utf8.proofs.Eights.{plain_more}
 use Rattle.utf8.proofs.plain_end.Goals as goal
 
