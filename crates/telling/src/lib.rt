@@ -7,16 +7,17 @@
 mod parts;
 
 use asking::{Asked, Line};
+use print::Out;
 use reading::Answer;
 
 // The answer to a request about bytes alone; to any other it is `unknown`.
-pub fn answer(line: &mut [u8], out: &mut [u8], at: usize) -> usize {
+pub fn answer(line: &mut [u8], out: &mut Out<'_>, at: usize) -> usize {
     let l = asking::of(line);
     let n = l.len;
     told(l, &line[..n], out, at)
 }
 
-fn told(l: Line, b: &[u8], out: &mut [u8], at: usize) -> usize {
+fn told(l: Line, b: &[u8], out: &mut Out<'_>, at: usize) -> usize {
     let asked = l.asked;
     match asked {
         Asked::Utf8 => utf8(b, out, at),
@@ -32,12 +33,12 @@ fn told(l: Line, b: &[u8], out: &mut [u8], at: usize) -> usize {
 }
 
 // How many leading bytes form whole good characters.
-fn utf8(b: &[u8], out: &mut [u8], at: usize) -> usize {
+fn utf8(b: &[u8], out: &mut Out<'_>, at: usize) -> usize {
     print::field(out, at, b"good=", utf8::good(b) as u64)
 }
 
 // 1 where a text without its trailing zero bytes is a number text, and 0.
-fn literal(b: &[u8], out: &mut [u8], at: usize) -> usize {
+fn literal(b: &[u8], out: &mut Out<'_>, at: usize) -> usize {
     print::field(out, at, b"literal=", judged(b))
 }
 
@@ -47,7 +48,7 @@ fn judged(b: &[u8]) -> u64 {
 }
 
 // The term at a place, with all that reading answers.
-fn read(b: &[u8], limit: usize, place: usize, out: &mut [u8], at: usize) -> usize {
+fn read(b: &[u8], limit: usize, place: usize, out: &mut Out<'_>, at: usize) -> usize {
     whole(terms::read(b, place, reading::plainly(limit)), out, at)
 }
 
@@ -57,14 +58,21 @@ fn find_number(
     limit: usize,
     place: usize,
     number: i64,
-    out: &mut [u8],
+    out: &mut Out<'_>,
     at: usize,
 ) -> usize {
     whole(lookup::find_number(b, place, limit, number), out, at)
 }
 
 // The same of a name: the first n bytes. The input is what follows it.
-fn find_name(b: &[u8], limit: usize, place: usize, n: usize, out: &mut [u8], at: usize) -> usize {
+fn find_name(
+    b: &[u8],
+    limit: usize,
+    place: usize,
+    n: usize,
+    out: &mut Out<'_>,
+    at: usize,
+) -> usize {
     if b.len() < n {
         return asking::refused(Asked::Unknown, out, at);
     }
@@ -72,7 +80,7 @@ fn find_name(b: &[u8], limit: usize, place: usize, n: usize, out: &mut [u8], at:
 }
 
 // All of an answer.
-fn whole(a: Answer, out: &mut [u8], at: usize) -> usize {
+fn whole(a: Answer, out: &mut Out<'_>, at: usize) -> usize {
     let n = [
         a.number,
         a.end as u64,

@@ -1,5 +1,7 @@
 // Our calls on fragments, and their answers as text.
-pub(crate) fn first(b: &[u8], out: &mut [u8], at: usize) -> usize {
+use print::Out;
+
+pub(crate) fn first(b: &[u8], out: &mut Out<'_>, at: usize) -> usize {
     let f = fragments::first(b);
     if f.number != 0 {
         return refused(f.number, f.rest as u64, f.extra, out, at);
@@ -13,7 +15,7 @@ pub(crate) fn first(b: &[u8], out: &mut [u8], at: usize) -> usize {
     )
 }
 
-pub(crate) fn next(b: &[u8], out: &mut [u8], at: usize) -> usize {
+pub(crate) fn next(b: &[u8], out: &mut Out<'_>, at: usize) -> usize {
     let f = fragments::next(b);
     if f.number != 0 {
         return refused(f.number, f.rest as u64, f.extra, out, at);
@@ -22,7 +24,7 @@ pub(crate) fn next(b: &[u8], out: &mut [u8], at: usize) -> usize {
     print::form(out, at, b"answer=0 rest=#0 sequence=#1 fragment=#2", &n)
 }
 
-fn refused(number: u64, rest: u64, extra: u64, out: &mut [u8], at: usize) -> usize {
+fn refused(number: u64, rest: u64, extra: u64, out: &mut Out<'_>, at: usize) -> usize {
     print::form(
         out,
         at,
