@@ -6,6 +6,7 @@
 ghost use Rattle.std.specs.Prelude.{◌≤◌, length};
 
 use asking::Asked;
+use print::Out;
 use writer::Written;
 
 // The answer to `write`.
@@ -13,7 +14,7 @@ pub fn answer(
     line: &mut [u8],
     row: &mut [u64],
     lent: &mut [u8],
-    out: &mut [u8],
+    out: &mut Out<'_>,
     at: usize,
 ) -> usize {
     let l = asking::write(line, row);
@@ -32,7 +33,7 @@ fn write(
     n: usize,
     row: &[u64],
     lent: &mut [u8],
-    out: &mut [u8],
+    out: &mut Out<'_>,
     at: usize,
 ) -> usize {
     if row.len() < n {
@@ -44,14 +45,14 @@ fn write(
     filled(texts, &row[..n], &mut lent[..room], out, at)
 }
 
-fn filled(texts: &[u8], row: &[u64], lent: &mut [u8], out: &mut [u8], at: usize) -> usize {
+fn filled(texts: &[u8], row: &[u64], lent: &mut [u8], out: &mut Out<'_>, at: usize) -> usize {
     blank(lent);
     let w = writer::write(row, texts, lent);
     shown(w, lent, out, at)
 }
 
 // A refused write has written no bytes, so that none are shown and all are looked at.
-fn shown(w: Written, lent: &[u8], out: &mut [u8], at: usize) -> usize
+fn shown(w: Written, lent: &[u8], out: &mut Out<'_>, at: usize) -> usize
     requires { w.len ≤ length lent.now }
 {
     let n = [w.number, w.len as u64, w.extra];
@@ -60,7 +61,7 @@ fn shown(w: Written, lent: &[u8], out: &mut [u8], at: usize) -> usize
 }
 
 // The bytes that were written, and how many of the others are as they were.
-fn behind(n: usize, lent: &[u8], out: &mut [u8], at: usize) -> usize
+fn behind(n: usize, lent: &[u8], out: &mut Out<'_>, at: usize) -> usize
     requires { n ≤ length lent.now }
 {
     let put = print::hex(out, at, &lent[..n]);
