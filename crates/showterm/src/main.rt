@@ -8,28 +8,30 @@
 ghost use Rattle.std.specs.Prelude.{◌≤◌, ◌*◌, ◌+◌, length};
 ghost use Rattle.tape.specs.Cells.{cell_words};
 
+use print::Out;
 use reading::{Answer, Cause};
+use std::process::ExitCode;
 
 // The most bytes of a record.
 const RECORD: usize = 65536;
 
-fn main() {
+fn main(rt: HostRuntime) -> ExitCode {
     let mut input = [0u8; 65537];
     let mut tape = [0u32; 16380];
-    let mut out = io::large_buffer();
-    let n = input::fill(&mut input);
+    let mut room = [0u8; 65536];
+    let mut out = Out::new(&mut room, rt.stdout(), rt.stderr());
+    let n = input::fill(rt.stdin(), &mut input);
     if n == input::FAILED {
-        print::unread();
-        return;
-    }
-    if RECORD < n {
+        print::unread(&mut out);
+    } else if RECORD < n {
         refused(reading::refusal(Cause::Long, 0, 0, 0, 0), &mut out);
-        return;
+    } else {
+        record(&input[..n], &mut tape, &mut out);
     }
-    record(&input[..n], &mut tape, &mut out);
+    print::status(&out)
 }
 
-fn record(b: &[u8], tape: &mut [u32], out: &mut [u8]) {
+fn record(b: &[u8], tape: &mut [u32], out: &mut Out<'_>) {
     let a = tape::read(b, numbers::NESTING, tape);
     if a.number != numbers::DONE {
         refused(a, out);
@@ -39,7 +41,7 @@ fn record(b: &[u8], tape: &mut [u32], out: &mut [u8]) {
 }
 
 // An accepted record: its counts, and a line for each cell.
-fn accepted(begun: usize, deepest: usize, tape: &[u32], out: &mut [u8])
+fn accepted(begun: usize, deepest: usize, tape: &[u32], out: &mut Out<'_>)
     requires { cell_words * begun ≤ length tape.now }
 {
     let mut put = counts(numbers::DONE, begun, deepest, out);
@@ -52,7 +54,7 @@ fn accepted(begun: usize, deepest: usize, tape: &[u32], out: &mut [u8])
     print::flush(out, put);
 }
 
-fn cell(i: usize, tape: &[u32], out: &mut [u8], at: usize) -> usize
+fn cell(i: usize, tape: &[u32], out: &mut Out<'_>, at: usize) -> usize
     requires { cell_words * i + cell_words ≤ length tape.now }
 {
     let w = tape::CELL * i;
@@ -62,7 +64,7 @@ fn cell(i: usize, tape: &[u32], out: &mut [u8], at: usize) -> usize
 }
 
 // Its tag, start and end, three words from w on.
-fn span(w: usize, tape: &[u32], out: &mut [u8], at: usize) -> usize
+fn span(w: usize, tape: &[u32], out: &mut Out<'_>, at: usize) -> usize
     requires { w + 3 ≤ length tape.now }
 {
     let mut put = print::field(out, at, b" kind=", wide(tape[w]));
@@ -71,7 +73,7 @@ fn span(w: usize, tape: &[u32], out: &mut [u8], at: usize) -> usize
 }
 
 // Its parent's cell and the cells in its subtree, two words from w on.
-fn kin(w: usize, tape: &[u32], out: &mut [u8], at: usize) -> usize
+fn kin(w: usize, tape: &[u32], out: &mut Out<'_>, at: usize) -> usize
     requires { w + 2 ≤ length tape.now }
 {
     let put = print::field(out, at, b" parent=", wide(tape[w]));
@@ -79,7 +81,7 @@ fn kin(w: usize, tape: &[u32], out: &mut [u8], at: usize) -> usize
 }
 
 // A refusal: its number, counts and place, its extra and its path.
-fn refused(a: Answer, out: &mut [u8]) {
+fn refused(a: Answer, out: &mut Out<'_>) {
     let mut put = counts(a.number, a.begun, a.deepest, out);
     put = print::line(out, put, b"offset=", a.offset as u64);
     put = print::line(out, put, b"extra=", a.extra);
@@ -90,7 +92,7 @@ fn refused(a: Answer, out: &mut [u8]) {
     print::refused(out, put);
 }
 
-fn counts(number: u64, begun: usize, deepest: usize, out: &mut [u8]) -> usize {
+fn counts(number: u64, begun: usize, deepest: usize, out: &mut Out<'_>) -> usize {
     let mut put = print::line(out, 0, b"answer=", number);
     put = print::line(out, put, b"terms=", begun as u64);
     print::line(out, put, b"deepest=", deepest as u64)
