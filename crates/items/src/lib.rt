@@ -8,27 +8,29 @@
 ghost use Rattle.std.specs.Prelude.{◌≤◌, ◌+◌, length};
 
 use fields::Field;
+use print::Out;
 
 // The item of the term at a place. What its children are, their own items say.
-pub fn item(b: &[u8], place: usize, out: &mut [u8], at: usize) -> usize {
+pub fn item(b: &[u8], place: usize, out: &mut Out<'_>, at: usize) -> usize {
     let h = heads::head(b, place);
+    let tag = h.tag;
     let w = headwords::words(h);
     if w[0] != 0 {
         return print::field(out, at, b"refused:", w[0]);
     }
-    let put = begun(h.tag, &w, out, at);
-    rest(h.tag, &w, b, out, put)
+    let put = begun(tag, &w, out, at);
+    rest(tag, &w, b, out, put)
 }
 
 // An item up to where bytes or bits follow.
-fn begun(tag: u8, w: &[u64], out: &mut [u8], at: usize) -> usize {
+fn begun(tag: u8, w: &[u64], out: &mut Out<'_>, at: usize) -> usize {
     let forms =
         b"a=i: b=i: F=f: c=t: d=a: v=a: w=a: k=s: m=b: M=bits:#6: n=n: o=n: j=nil l=list:#4 h=tuple:#4 i=tuple:#4 t=map:#4 X=pid:#6:#7:#8 x=port:#6:#7 Z=ref:#7 q=fun p=fn:#5:";
     print::form(out, at, keyed(forms, tag), w)
 }
 
 // What follows of an item.
-fn rest(tag: u8, w: &[u64], b: &[u8], out: &mut [u8], at: usize) -> usize {
+fn rest(tag: u8, w: &[u64], b: &[u8], out: &mut Out<'_>, at: usize) -> usize {
     match tag {
         97 | 98 => print::twos(out, at, word(w, 4)),
         70 => print::bits(out, at, word(w, 4)),
@@ -48,7 +50,7 @@ fn word(w: &[u64], k: usize) -> u64 {
 }
 
 // n bytes from a place on. Were they not there, none would be shown, and the comparison would tell.
-fn bytes(s: u64, n: u64, b: &[u8], out: &mut [u8], at: usize) -> usize {
+fn bytes(s: u64, n: u64, b: &[u8], out: &mut Out<'_>, at: usize) -> usize {
     if fields::has(b, s as usize, n as usize) {
         return print::hex(out, at, run(b, s as usize, n as usize));
     }
@@ -63,7 +65,7 @@ fn run(b: &[u8], s: usize, n: usize) -> &[u8]
 }
 
 // The last of its words says whether it is negative.
-fn big(w: &[u64], b: &[u8], out: &mut [u8], at: usize) -> usize {
+fn big(w: &[u64], b: &[u8], out: &mut Out<'_>, at: usize) -> usize {
     let sign = [sign(word(w, 7)), b':'];
     let put = print::text(out, at, &sign);
     bytes(word(w, 4), word(w, 5), b, out, put)
@@ -74,7 +76,7 @@ fn sign(negative: u64) -> u8 {
 }
 
 // n ids of four bytes, from a place on.
-fn ids(b: &[u8], s: u64, n: u64, out: &mut [u8], at: usize) -> usize {
+fn ids(b: &[u8], s: u64, n: u64, out: &mut Out<'_>, at: usize) -> usize {
     let mut put = at;
     let mut place = s as usize;
     let mut left = n;
@@ -86,7 +88,7 @@ fn ids(b: &[u8], s: u64, n: u64, out: &mut [u8], at: usize) -> usize {
     put
 }
 
-fn id(b: &[u8], place: usize, out: &mut [u8], at: usize) -> usize {
+fn id(b: &[u8], place: usize, out: &mut Out<'_>, at: usize) -> usize {
     let f = fields::be_u32(b, place);
     match f {
         Field::Is(n) => print::field(out, at, b":", n),
@@ -102,25 +104,26 @@ fn next(place: usize) -> usize {
     place
 }
 
-fn function(w: &[u64], b: &[u8], out: &mut [u8], at: usize) -> usize {
+fn function(w: &[u64], b: &[u8], out: &mut Out<'_>, at: usize) -> usize {
     let put = bytes(word(w, 6), 16, b, out, at);
     print::form(out, put, b":#7:#8", w)
 }
 
 // All that the head at a place answers, and the part that belongs to it.
-pub fn head(b: &[u8], place: usize, out: &mut [u8], at: usize) -> usize {
+pub fn head(b: &[u8], place: usize, out: &mut Out<'_>, at: usize) -> usize {
     let h = heads::head(b, place);
+    let tag = h.tag;
     let w = headwords::words(h);
     if w[0] != 0 {
         return print::form(out, at, b"answer=#0 tag=#1 offset=#2 extra=#3", &w);
     }
-    let put = fields_of(h.tag, &w, out, at);
+    let put = fields_of(tag, &w, out, at);
     let led = print::text(out, put, b" part=");
     print::word(out, led, heads::part(b, place))
 }
 
 // A tag and the fields that it has.
-fn fields_of(tag: u8, w: &[u64], out: &mut [u8], at: usize) -> usize {
+fn fields_of(tag: u8, w: &[u64], out: &mut Out<'_>, at: usize) -> usize {
     let put = print::form(out, at, b"answer=0 tag=#1 fields=", w);
     if tag == 97 || tag == 98 {
         return print::twos(out, put, word(w, 4));

@@ -6,6 +6,7 @@
 
 use asking::Asked;
 use cache::{Cache, Got};
+use print::Out;
 
 // Where an answer ends, and the names then.
 #[derive(Drop)]
@@ -20,7 +21,7 @@ pub fn answer(
     known: Cache,
     store: &mut [u8],
     noted: &mut [u8; 256],
-    out: &mut [u8],
+    out: &mut Out<'_>,
     at: usize,
 ) -> Reached {
     let l = asking::of(line);
@@ -45,7 +46,7 @@ fn shown(
     known: Cache,
     store: &[u8],
     noted: &[u8; 256],
-    out: &mut [u8],
+    out: &mut Out<'_>,
     at: usize,
 ) -> usize {
     match asked {
@@ -64,14 +65,14 @@ pub fn with(at: usize, names: Cache) -> Reached {
 }
 
 // Reads a header, which may bring names.
-fn header(b: &[u8], before: Cache, store: &mut [u8], out: &mut [u8], at: usize) -> Reached {
+fn header(b: &[u8], before: Cache, store: &mut [u8], out: &mut Out<'_>, at: usize) -> Reached {
     let h = header::read(b, before, store);
     let put = told(h.number, h.rest as u64, h.extra, out, at);
     let names = h.cache;
     with(put, names)
 }
 
-fn told(number: u64, rest: u64, extra: u64, out: &mut [u8], at: usize) -> usize {
+fn told(number: u64, rest: u64, extra: u64, out: &mut Out<'_>, at: usize) -> usize {
     print::form(
         out,
         at,
@@ -81,19 +82,19 @@ fn told(number: u64, rest: u64, extra: u64, out: &mut [u8], at: usize) -> usize 
 }
 
 // No names, and a header with no references.
-fn cleared(noted: &mut [u8; 256], out: &mut [u8], at: usize) -> Reached {
+fn cleared(noted: &mut [u8; 256], out: &mut Out<'_>, at: usize) -> Reached {
     noted[0] = 0;
     let none = cache::empty();
     with(count(none, out, at), none)
 }
 
 // How many names there are.
-fn count(c: Cache, out: &mut [u8], at: usize) -> usize {
+fn count(c: Cache, out: &mut Out<'_>, at: usize) -> usize {
     print::field(out, at, b"names=", cache::count(c) as u64)
 }
 
 // All names, by their slots.
-fn all(c: Cache, store: &[u8], out: &mut [u8], at: usize) -> usize {
+fn all(c: Cache, store: &[u8], out: &mut Out<'_>, at: usize) -> usize {
     let mut put = count(c, out, at);
     let mut slot = 0u8;
     while slot < 255 {
@@ -104,7 +105,7 @@ fn all(c: Cache, store: &[u8], out: &mut [u8], at: usize) -> usize {
 }
 
 // A slot's name behind its slot, nothing where the slot isn't filled.
-fn filled(c: Cache, store: &[u8], slot: u8, out: &mut [u8], at: usize) -> usize {
+fn filled(c: Cache, store: &[u8], slot: u8, out: &mut Out<'_>, at: usize) -> usize {
     let g = cache::get(c, store, slot);
     match g {
         Got::Name(_, _) => {
@@ -116,7 +117,7 @@ fn filled(c: Cache, store: &[u8], slot: u8, out: &mut [u8], at: usize) -> usize 
 }
 
 // The name in a slot. There are 256 slots.
-fn get(c: Cache, store: &[u8], slot: usize, out: &mut [u8], at: usize) -> usize {
+fn get(c: Cache, store: &[u8], slot: usize, out: &mut Out<'_>, at: usize) -> usize {
     if 255 < slot {
         return asking::refused(Asked::Unknown, out, at);
     }
@@ -130,7 +131,7 @@ fn position(
     store: &[u8],
     noted: &[u8; 256],
     k: usize,
-    out: &mut [u8],
+    out: &mut Out<'_>,
     at: usize,
 ) -> usize {
     if 255 < k {
@@ -147,7 +148,7 @@ fn atom(
     c: Cache,
     store: &[u8],
     noted: &[u8; 256],
-    out: &mut [u8],
+    out: &mut Out<'_>,
     at: usize,
 ) -> usize {
     let g = positions::get_at(b, place, c, store, noted);
@@ -155,7 +156,7 @@ fn atom(
 }
 
 // A name that was asked for: its place in the store, its length, and its bytes.
-fn named(g: Got, name: &[u8], out: &mut [u8], at: usize) -> usize {
+fn named(g: Got, name: &[u8], out: &mut Out<'_>, at: usize) -> usize {
     match g {
         Got::Name(place, n) => {
             let put = placed(place as u64, n as u64, out, at);
@@ -165,6 +166,6 @@ fn named(g: Got, name: &[u8], out: &mut [u8], at: usize) -> usize {
     }
 }
 
-fn placed(place: u64, n: u64, out: &mut [u8], at: usize) -> usize {
+fn placed(place: u64, n: u64, out: &mut Out<'_>, at: usize) -> usize {
     print::form(out, at, b"answer=0 place=#0 length=#1 name=", &[place, n])
 }

@@ -5,10 +5,11 @@
 ghost use Rattle.std.specs.Prelude.{◌≤◌};
 ghost use Rattle.numbers.specs.Caps as cap;
 
+use print::Out;
 use reading::{Kind, Segment};
 
 // A path's first `len` segments, joined by /. It holds sixty-four.
-pub fn path(out: &mut [u8], at: usize, segments: [Segment; numbers::NESTING], len: usize) -> usize {
+pub fn path(out: &mut Out<'_>, at: usize, segments: [Segment; numbers::NESTING], len: usize) -> usize {
     let n = shown(len);
     let mut put = at;
     let mut i = 0;
@@ -31,14 +32,14 @@ fn shown(len: usize) -> usize
     }
 }
 
-fn joint(out: &mut [u8], at: usize, i: usize) -> usize {
+fn joint(out: &mut Out<'_>, at: usize, i: usize) -> usize {
     if i == 0 {
         return at;
     }
     print::text(out, at, b"/")
 }
 
-fn segment(out: &mut [u8], at: usize, s: Segment) -> usize {
+fn segment(out: &mut Out<'_>, at: usize, s: Segment) -> usize {
     let kind = s.kind;
     match kind {
         Kind::Tuple => print::field(out, at, b"tuple:", s.number),

@@ -5,25 +5,35 @@
 // output by the programs' tests.
 //
 // A failure is final. What can't be written is said once, and FAILED is answered instead of a number of bytes: who gets it adds nothing, writes
-// nothing and answers it again. How a program ended is noted where it shows, and `status` gives it to `main`.
+// nothing and answers it again. How a program ends is noted where it shows, and `status` is for its `main`.
 
 #![tactic(auto)]
 
 ghost use Rattle.std.specs.Prelude.{◌≤◌, ◌+◌, length};
 
-use std::io::{Print, Stderr, Stdout};
+use std::io;
+use std::io::{ErrorKind, Print, Stderr, Stdout};
 use std::process::ExitCode;
 
 // The output has failed.
 pub const FAILED: usize = usize::MAX;
 
-// Standard output behind a lent buffer, where failures are said, and how the program ended, 0 where nothing else was noted.
+// The statuses of a program, but for 0. The last is that of one whose output is a pipe that nobody reads: it says nothing of that.
+const REFUSED: u8 = 1;
+
+const UNREAD: u8 = 2;
+
+const UNWRITTEN: u8 = 3;
+
+const PIPED: u8 = 141;
+
+// Standard output behind a lent buffer, where failures are said, and the status that was noted.
 #[derive(Drop)]
 pub struct Out<'a> {
     room: &'a mut [u8],
     to: Stdout,
     errors: Stderr,
-    ended: u8,
+    status: u8,
 }
 
 impl<'a> Out<'a> {
@@ -32,7 +42,7 @@ impl<'a> Out<'a> {
             room,
             to,
             errors,
-            ended: 0,
+            status: 0,
         }
     }
 }
@@ -51,10 +61,8 @@ pub fn text(out: &mut Out<'_>, at: usize, text: &[u8]) -> usize {
     if text.len() <= out.room.len() {
         return copy(out.room, 0, text);
     }
-    if write(&out.to, text) {
-        return 0;
-    }
-    failed(out)
+    let written = write(&out.to, text);
+    told(out, written)
 }
 
 // Writes what waits. Answers that nothing waits any more, or FAILED.
@@ -64,53 +72,56 @@ pub fn flush(out: &mut Out<'_>, at: usize) -> usize {
     }
     let to = out.to;
     let n = least(at, out.room.len());
-    if write(&to, &out.room[..n]) {
-        return 0;
-    }
-    failed(out)
+    let written = write(&to, &out.room[..n]);
+    told(out, written)
 }
 
-fn failed(out: &mut Out<'_>) -> usize {
-    ends(out, b"the output could not be written\n", 3);
+// Nothing waits after a write; of one that failed it is said.
+fn told(out: &mut Out<'_>, written: io::Result<()>) -> usize {
+    let Err(error) = written else {
+        return 0;
+    };
+    if let ErrorKind::BrokenPipe = error.kind() {
+        out.status = PIPED;
+        return FAILED;
+    }
+    ends(out, b"the output could not be written\n", UNWRITTEN);
     FAILED
 }
 
 // What a program says that can't read its input.
 pub fn unread(out: &mut Out<'_>) {
-    ends(out, b"standard input could not be read\n", 2);
+    ends(out, b"standard input could not be read\n", UNREAD);
 }
 
-// Writes what waits of an answer that is a refusal, and notes that it is one.
+// Writes what waits of an answer that is a refusal, and tells by the status that it is one.
 pub fn refused(out: &mut Out<'_>, at: usize) {
     if flush(out, at) != FAILED {
-        out.ended = 1;
+        out.status = REFUSED;
     }
 }
 
 fn ends(out: &mut Out<'_>, text: &[u8], status: u8) {
-    write(&out.errors, text);
-    out.ended = status;
+    let _ = write(&out.errors, text);
+    out.status = status;
 }
 
-// How the program ended. 0: well. 1: the record is refused. 2: the input could not be read. 3: the output could not be written.
+// What `main` returns.
 pub fn status(out: &Out<'_>) -> ExitCode {
-    ExitCode::from(out.ended)
+    ExitCode::from(out.status)
 }
 
-// Writes all of a text, or stops at the first write that takes nothing or fails, and answers whether all is written. Where there is none,
-// nothing is called.
-fn write(to: &impl Print, text: &[u8]) -> bool {
+// Writes all of a text, or stops at the first write that takes nothing or fails. Where there is no text, nothing is called.
+fn write(to: &impl Print, text: &[u8]) -> io::Result<()> {
     let mut done = 0;
     while done < text.len() {
-        let Ok(n) = to.write_some(&text[done..]) else {
-            return false;
-        };
+        let n = to.write_some(&text[done..])?;
         if n == 0 {
-            return false;
+            return Err(ErrorKind::WriteZero.into());
         }
         done += n;
     }
-    true
+    Ok(())
 }
 
 fn copy(out: &mut [u8], at: usize, text: &[u8]) -> usize

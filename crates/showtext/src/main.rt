@@ -6,23 +6,26 @@
 
 #![tactic(auto)]
 
-fn main() {
+use print::Out;
+use std::process::ExitCode;
+
+fn main(rt: HostRuntime) -> ExitCode {
     let mut input = [0u8; 65537];
-    let mut out = io::buffer();
-    let n = input::fill(&mut input);
+    let mut room = [0u8; 4096];
+    let mut out = Out::new(&mut room, rt.stdout(), rt.stderr());
+    let n = input::fill(rt.stdin(), &mut input);
     if n == input::FAILED {
-        print::unread();
-        return;
-    }
-    if 65536 < n {
+        print::unread(&mut out);
+    } else if 65536 < n {
         let put = print::line(&mut out, 0, b"answer=", numbers::LONG);
-        print::refused(&out, put);
-        return;
+        print::refused(&mut out, put);
+    } else {
+        show(&input[..n], &mut out);
     }
-    show(&input[..n], &mut out);
+    print::status(&out)
 }
 
-fn show(text: &[u8], out: &mut [u8]) {
+fn show(text: &[u8], out: &mut Out<'_>) {
     let left = literal::trim(text);
     let number = literal::literal(&text[..left]);
     let mut put = print::line(out, 0, b"bytes=", text.len() as u64);

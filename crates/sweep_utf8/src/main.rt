@@ -7,39 +7,46 @@
 
 ghost use Rattle.std.specs.Prelude.{◌≡◌, ◌*◌, ◌≤◌, ◌<◌, length};
 
-fn main() {
+use print::Out;
+use std::process::ExitCode;
+
+fn main(rt: HostRuntime) -> ExitCode {
+    let mut room = [0u8; 4096];
+    let mut out = Out::new(&mut room, rt.stdout(), rt.stderr());
     let mut at = 0;
-    let mut strings = empty(&mut at);
+    let mut strings = empty(&mut out, &mut at);
     let mut one = [0u8; 1];
-    strings += section(&mut one, 1, &mut at);
+    strings += section(&mut one, 1, &mut out, &mut at);
     let mut two = [0u8; 2];
-    strings += section(&mut two, 256, &mut at);
+    strings += section(&mut two, 256, &mut out, &mut at);
     let mut three = [0u8; 3];
-    strings += section(&mut three, 65536, &mut at);
-    strings += edges(&mut at);
-    sweep::line(at, b"strings=", strings);
+    strings += section(&mut three, 65536, &mut out, &mut at);
+    strings += edges(&mut out, &mut at);
+    sweep::line(&mut out, at, b"strings=", strings);
+    print::status(&out)
 }
 
 // The section of the empty text. Answers how many texts there were, as every section does; whether the output has failed is lent.
-fn empty(at: &mut usize) -> u64
+fn empty(out: &mut Out<'_>, at: &mut usize) -> u64
     ensures { result ≡ 1 }
 {
     let row = [judged(b"")];
-    let put = sweep::line(*at, b"length ", 0);
-    *at = sweep::print_row(sweep::text(put, b"-"), &row);
+    let put = sweep::line(out, *at, b"length ", 0);
+    let named = sweep::text(out, put, b"-");
+    *at = sweep::print_row(out, named, &row);
     row.len() as u64
 }
 
 // The section of all texts as long as this one: so many numbers spell what stands before the last byte.
-fn section(text: &mut [u8], numbers: usize, at: &mut usize) -> u64
+fn section(text: &mut [u8], numbers: usize, out: &mut Out<'_>, at: &mut usize) -> u64
     requires { (0 < length text.old) × (numbers ≤ 65536) }
     ensures { result ≤ 16777216 }
 {
-    *at = sweep::line(*at, b"length ", text.len() as u64);
+    *at = sweep::line(out, *at, b"length ", text.len() as u64);
     let mut last = [0u8; 256];
     count_up(&mut last);
     let mut row = [255u8; 256];
-    rows(text, 0, numbers, &last, &mut row, at)
+    rows(text, 0, numbers, &last, &mut row, out, at)
 }
 
 // Every byte in its order.
@@ -52,17 +59,17 @@ fn count_up(bytes: &mut [u8]) {
 }
 
 // The section of four bytes: every lead from e0 to f5, and then three bytes, each of them at an edge.
-fn edges(at: &mut usize) -> u64
+fn edges(out: &mut Out<'_>, at: &mut usize) -> u64
     ensures { result ≤ 16777216 }
 {
-    *at = sweep::line(*at, b"length ", 4);
+    *at = sweep::line(out, *at, b"length ", 4);
     let mut text = [0u8; 4];
     let last = b"\x7F\x80\x81\x8E\x8F\x90\x91\x9E\x9F\xA0\xA1\xBE\xBF\xC0";
     let mut row = [255u8; 14];
-    leads(&mut text, last, &mut row, at)
+    leads(&mut text, last, &mut row, out, at)
 }
 
-fn leads(text: &mut [u8], last: &[u8], row: &mut [u8], at: &mut usize) -> u64
+fn leads(text: &mut [u8], last: &[u8], row: &mut [u8], out: &mut Out<'_>, at: &mut usize) -> u64
     requires { (1 < length text.old) × ((0 < length last.now) × ((length row.old ≡ length last.now) × (length last.now ≤ 256))) }
     ensures { result ≤ 16777216 }
 {
@@ -70,7 +77,7 @@ fn leads(text: &mut [u8], last: &[u8], row: &mut [u8], at: &mut usize) -> u64
     let mut lead: u8 = 0xE0;
     while lead <= 0xF5 {
         text[0] = lead;
-        strings += rows(text, 1, 14 * 14, last, row, at);
+        strings += rows(text, 1, 14 * 14, last, row, out, at);
         lead += 1;
     }
     strings
@@ -83,6 +90,7 @@ fn rows(
     numbers: usize,
     last: &[u8],
     row: &mut [u8],
+    out: &mut Out<'_>,
     at: &mut usize,
 ) -> u64
     requires text_nonzero { (0 < length text.old) × (numbers ≤ 65536) }
@@ -94,14 +102,14 @@ fn rows(
     let mut number = 0;
     while number < numbers {
         sweep::spell(text, from, end, last, number);
-        strings += print_row(text, last, row, at);
+        strings += print_row(text, last, row, out, at);
         number += 1;
     }
     strings
 }
 
 // The row over the values of the text's last byte, printed where it is new. Answers how many texts it has.
-fn print_row(text: &mut [u8], last: &[u8], row: &mut [u8], at: &mut usize) -> u64
+fn print_row(text: &mut [u8], last: &[u8], row: &mut [u8], out: &mut Out<'_>, at: &mut usize) -> u64
     requires { (0 < length text.old) × ((length row.old ≡ length last.now) × (length last.now ≤ 256)) }
     ensures { result ≤ 256 }
 {
@@ -114,7 +122,8 @@ fn print_row(text: &mut [u8], last: &[u8], row: &mut [u8], at: &mut usize) -> u6
         i += 1;
     }
     if new {
-        *at = sweep::print_row(print_prefix(*at, &text[..end]), row);
+        let put = print_prefix(out, *at, &text[..end]);
+        *at = sweep::print_row(out, put, row);
     }
     i as u64
 }
@@ -125,11 +134,10 @@ fn judged(text: &[u8]) -> u8 {
 }
 
 // The bytes before the last one in hex, or - where there are none.
-fn print_prefix(at: usize, bytes: &[u8]) -> usize {
+fn print_prefix(out: &mut Out<'_>, at: usize, bytes: &[u8]) -> usize {
     if bytes.len() == 0 {
-        return sweep::text(at, b"-");
+        return sweep::text(out, at, b"-");
     }
-    let mut out = io::buffer();
-    let put = print::hex(&mut out, at, bytes);
-    print::flush(&out, put)
+    let put = print::hex(out, at, bytes);
+    print::flush(out, put)
 }

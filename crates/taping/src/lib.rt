@@ -7,6 +7,7 @@ ghost use Rattle.std.specs.Prelude.{◌*◌, ◌≤◌, length};
 ghost use Rattle.tape.specs.Cells.{cell_words};
 
 use asking::Asked;
+use print::Out;
 use reading::Answer;
 use tape::CELL;
 
@@ -14,7 +15,7 @@ use tape::CELL;
 const BLANK: u32 = 4294967295;
 
 // The answer to `term` and `tape`, to any other it is `unknown`. For a record's value the run has to have room for all of its cells.
-pub fn answer(line: &mut [u8], run: &mut [u32], out: &mut [u8], at: usize) -> usize {
+pub fn answer(line: &mut [u8], run: &mut [u32], out: &mut Out<'_>, at: usize) -> usize {
     let l = asking::of(line);
     let n = l.len;
     let b = &line[..n];
@@ -27,7 +28,7 @@ pub fn answer(line: &mut [u8], run: &mut [u32], out: &mut [u8], at: usize) -> us
 }
 
 // Byte 131, one term, and nothing behind it, with the record's value.
-fn term(b: &[u8], run: &mut [u32], out: &mut [u8], at: usize) -> usize {
+fn term(b: &[u8], run: &mut [u32], out: &mut Out<'_>, at: usize) -> usize {
     let a = tape::read(b, numbers::NESTING, run);
     if a.number != 0 {
         return fault(a, out, at);
@@ -36,7 +37,7 @@ fn term(b: &[u8], run: &mut [u32], out: &mut [u8], at: usize) -> usize {
     row(b, run, cells(run, a.begun), out, put)
 }
 
-fn fault(a: Answer, out: &mut [u8], at: usize) -> usize {
+fn fault(a: Answer, out: &mut Out<'_>, at: usize) -> usize {
     let n = [a.number, a.offset as u64, a.extra];
     let put = print::form(out, at, b"answer=#0 offset=#1 extra=#2 path=", &n);
     let path = a.path;
@@ -54,7 +55,7 @@ fn cells(run: &[u32], begun: usize) -> usize
 }
 
 // A record's terms in the order of its cells, an item for each.
-fn row(b: &[u8], tape: &[u32], cells: usize, out: &mut [u8], at: usize) -> usize
+fn row(b: &[u8], tape: &[u32], cells: usize, out: &mut Out<'_>, at: usize) -> usize
     requires { cell_words * cells ≤ length tape.now }
 {
     let mut put = at;
@@ -68,7 +69,7 @@ fn row(b: &[u8], tape: &[u32], cells: usize, out: &mut [u8], at: usize) -> usize
 }
 
 // A letter between two.
-fn joint(i: usize, letter: u8, out: &mut [u8], at: usize) -> usize {
+fn joint(i: usize, letter: u8, out: &mut Out<'_>, at: usize) -> usize {
     if i == 0 {
         return at;
     }
@@ -80,27 +81,34 @@ fn wide(x: u32) -> u64 {
 }
 
 // Reads with the first words of a run for the tape, as many as are asked for and no more than there are.
-fn tape(b: &[u8], limit: usize, words: usize, run: &mut [u32], out: &mut [u8], at: usize) -> usize {
+fn tape(
+    b: &[u8],
+    limit: usize,
+    words: usize,
+    run: &mut [u32],
+    out: &mut Out<'_>,
+    at: usize,
+) -> usize {
     if run.len() < words {
         return asking::refused(Asked::Unknown, out, at);
     }
     filled(b, limit, &mut run[..words], out, at)
 }
 
-fn filled(b: &[u8], limit: usize, run: &mut [u32], out: &mut [u8], at: usize) -> usize {
+fn filled(b: &[u8], limit: usize, run: &mut [u32], out: &mut Out<'_>, at: usize) -> usize {
     blank(run);
     let a = tape::read(b, limit, run);
     shown(a, run, out, at)
 }
 
 // The answer of a read into a run that was blank; behind it the cells of a Done read, and how many words of the run are as they were.
-pub fn shown(a: Answer, run: &[u32], out: &mut [u8], at: usize) -> usize {
+pub fn shown(a: Answer, run: &[u32], out: &mut Out<'_>, at: usize) -> usize {
     let put = told(a, out, at);
     let listed = listed(a.number, a.begun, run, out, put);
     print::field(out, listed, b" kept=", kept(run) as u64)
 }
 
-fn told(a: Answer, out: &mut [u8], at: usize) -> usize {
+fn told(a: Answer, out: &mut Out<'_>, at: usize) -> usize {
     let n = [
         a.number,
         a.offset as u64,
@@ -118,7 +126,7 @@ fn told(a: Answer, out: &mut [u8], at: usize) -> usize {
     paths::path(out, put, path, a.len)
 }
 
-fn listed(number: u64, begun: usize, run: &[u32], out: &mut [u8], at: usize) -> usize {
+fn listed(number: u64, begun: usize, run: &[u32], out: &mut Out<'_>, at: usize) -> usize {
     let put = print::text(out, at, b" cells=");
     if number != 0 {
         return put;
@@ -153,7 +161,7 @@ fn unwritten(word: u32) -> usize
 }
 
 // The first words of a run, joined by , within a cell and by ; between two.
-fn words(run: &[u32], n: usize, out: &mut [u8], at: usize) -> usize
+fn words(run: &[u32], n: usize, out: &mut Out<'_>, at: usize) -> usize
     requires { n ≤ length run.now }
 {
     let mut put = at;
