@@ -7,6 +7,7 @@ mod words;
 
 ghost use Rattle.std.specs.Prelude.{◌≡◌, ◌≤◌, length};
 
+use print::Out;
 use words::{Integer, Number};
 
 // The most letters that a request of 65,536 bytes has: `number`, two numbers of twenty digits, a key of as many letters, four spaces, and
@@ -104,7 +105,7 @@ pub fn write(line: &mut [u8], row: &mut [u64]) -> Line
 }
 
 // What is answered to a line that asks nothing.
-pub fn refused(asked: Asked, out: &mut [u8], at: usize) -> usize {
+pub fn refused(asked: Asked, out: &mut Out<'_>, at: usize) -> usize {
     if let Asked::Long = asked {
         return print::text(out, at, b"long");
     }

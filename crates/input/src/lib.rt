@@ -4,20 +4,19 @@
 
 #![tactic(auto)]
 
-use libc::STDIN_FILENO;
+use std::io::{Read, Stdin};
 
 // Instead of a number of bytes: reading failed.
 pub const FAILED: usize = usize::MAX;
 
 // Reads until the buffer is full or the input ends, and answers how many bytes that is, or FAILED.
-pub fn fill(buf: &mut [u8]) -> usize {
+pub fn fill(stdin: Stdin, buf: &mut [u8]) -> usize {
+    let mut input = stdin;
     let mut n = 0;
     while n < buf.len() {
-        let got = libc::read(STDIN_FILENO, &mut buf[n..]);
-        if got < 0 {
+        let Ok(more) = input.read(&mut buf[n..]) else {
             return FAILED;
-        }
-        let more = io::count(got, &buf[n..]);
+        };
         if more == 0 {
             break;
         }

@@ -45,6 +45,7 @@ module _ {allow : Allowed} (b : List ℕ) {n : Node} where
         lie ts (start + 1 + length front) first (first + 1) (kids_laid l) (left b (start + 1 + length front) (bytes_all ts) back r) m
 
     lie : (ts : Forest) (start parent first : ℕ) → AllLaid allow ts → Stands b start (bytes_all ts) → Memᴰ n (nodes_all ts start parent first) → Lies allow b n
+    lie none start parent first _ s m = elim m [ ]
     lie (more t ts) start parent first (one_more l ls) s m =
         ⊎_elim (λ k. lies t start parent first l (left b start (bytes t) (bytes_all ts) s) k)
         (λ k. lie ts (start + length (bytes t)) parent (first + size t) ls (right b start (bytes t) (bytes_all ts) s) k) (Memᴰ.append_cases (nodes t start parent first) m)

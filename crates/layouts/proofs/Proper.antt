@@ -17,11 +17,14 @@ last_of x (more y ts) = let (t, l) = last_of y ts in (t, after l)
 -- a laid list has a child at least, its tail
 pub has_tail : {allow : Allowed} {n : List ℕ} (ts : Forest) → Laid allow (node 108 n ts []) → (t : Tree) × Tail ts t
 unfolding count
+has_tail {allow = allow} {n = n} none (layout.row x4) = elim x4 [ ]
 has_tail none (layout.list w c e a) = absurd (omega arith)
 has_tail (more x ts) l = last_of x ts
 
 pub one_tail : {ts : Forest} {t u : Tree} → Tail ts t → Tail ts u → t ≡ u
 one_tail only only = refl
+one_tail {u = u} (only {t = t}) (after l) = elim l [ ]
+one_tail (after {t = t} k) only = elim k [ ]
 one_tail (after k) (after l) = one_tail k l
 
 -- of a list with the tail t

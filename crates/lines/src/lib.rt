@@ -5,6 +5,9 @@
 
 ghost use Rattle.std.specs.Prelude.{◌≤◌, ◌+◌, ◌-◌, length};
 
+use print::Out;
+use std::io::{Read, Stdin};
+
 // Where the line that begins at `from` ends, `end` where it has no end of line before that.
 pub fn stop(text: &[u8], from: usize, end: usize) -> usize
     ensures { (from ≤ result + (from - end)) × (result ≤ end) }
@@ -34,7 +37,14 @@ fn found(text: &[u8], from: usize, end: usize) -> usize
 
 // Where no whole line is left: writes what waits in `out`, keeps the unfinished line and reads behind it. Answers where the bytes end then, and
 // 0 where nothing follows: there is no more to read, it can't be read, or the output failed.
-pub fn more(text: &mut [u8], from: usize, end: usize, out: &[u8], at: usize) -> usize
+pub fn more(
+    stdin: Stdin,
+    text: &mut [u8],
+    from: usize,
+    end: usize,
+    out: &mut Out<'_>,
+    at: usize,
+) -> usize
     ensures { result ≤ length text.old }
 {
     if text.len() < end {
@@ -47,7 +57,7 @@ pub fn more(text: &mut [u8], from: usize, end: usize, out: &[u8], at: usize) -> 
         return 0;
     }
     let kept = keep(text, from, end);
-    fill(text, kept)
+    fill(stdin, text, kept, out)
 }
 
 // Moves an unfinished line to the buffer's start, and answers how many bytes were kept. Of a line that is too long for a request one
@@ -73,16 +83,16 @@ fn least(a: usize, b: usize) -> usize
 
 // Reads once, behind what was kept, and answers where the bytes end then. Where there is no more, a line that was kept gets its end of line.
 // 0 where nothing follows; that the input can't be read is said.
-fn fill(text: &mut [u8], kept: usize) -> usize
+fn fill(stdin: Stdin, text: &mut [u8], kept: usize, out: &mut Out<'_>) -> usize
     requires { kept ≤ length text.old }
     ensures { result ≤ length text.old }
 {
     if kept == text.len() {
         return 0;
     }
-    let got = read(&mut text[kept..]);
+    let got = read(stdin, &mut text[kept..]);
     if got.failed {
-        print::unread();
+        print::unread(out);
         return 0;
     }
     if 0 < got.count || kept == 0 {
@@ -99,12 +109,18 @@ struct Got {
     failed: bool,
 }
 
-fn read(room: &mut [u8]) -> Got
+fn read(stdin: Stdin, room: &mut [u8]) -> Got
     ensures { result.count ≤ length room.old }
 {
-    let got = libc::read(0, room);
-    Got {
-        count: io::count(got, room),
-        failed: got < 0,
+    let mut input = stdin;
+    match input.read(room) {
+        Ok(count) => Got {
+            count,
+            failed: false,
+        },
+        Err(_) => Got {
+            count: 0,
+            failed: true,
+        },
     }
 }

@@ -1,6 +1,6 @@
 -- The trees of a row are terms, and an accepted row is one term: laid, nested within the limit, and its bytes behind 131 are what is written.
 -- Assumes nothing.
-use Rattle.std.proofs.Common.{◌≡◌, ℕ, suc, ◌+◌, ◌-◌, ◌^◌, ◌<◌, ◌≤◌, Bool, true, false, cond, ◌&&◌, eqb, ltb, leb, List, [], ◌∷◌, ◌++◌, length, ℤ, pos, negsuc, refl, ap, ◌∙◌, append-nil, arith, eqb-true, leb-true}
+use Rattle.std.proofs.Common.{◌≡◌, ℕ, suc, ◌-◌, ◌^◌, ◌<◌, ◌≤◌, Bool, true, false, cond, ◌&&◌, eqb, ltb, leb, List, [], ◌∷◌, ◌++◌, length, ℤ, pos, negsuc, refl, ap, ◌∙◌, append-nil, arith, eqb-true, leb-true}
 use native.Mathlib.Nat.{le-max_left}
 use Rattle.numbers.specs.Allowed.{plain}
 use Rattle.numbers.specs.Caps as cap

@@ -1,6 +1,6 @@
 -- Every item's tree has one form: its first bytes, its children, with a tail where it is a list, and nothing behind them. So its bytes, and how
 -- deep it is nested, are told of all kinds at once. Assumes nothing.
-use Rattle.std.proofs.Common.{◌≡◌, ℕ, suc, ◌+◌, ◌-◌, ◌≤◌, Bool, true, false, cond, ltb, leb, ◌↔◌, List, [], ◌∷◌, ◌++◌, length, pos, negsuc, sym, refl, append_assoc, append-nil, arith}
+use Rattle.std.proofs.Common.{◌≡◌, ℕ, suc, ◌≤◌, Bool, true, false, cond, ltb, leb, ◌↔◌, List, [], ◌∷◌, ◌++◌, length, pos, negsuc, sym, refl, append_assoc, append-nil, arith}
 use native.Mathlib.Nat.{le-max_left, le-max_right, max-le}
 use Rattle.fields.specs.Be.{bytes_of}
 use Rattle.layouts.specs.Tree.{Tree, Forest, node, none, more, count, depth, depths, bytes, bytes_all}

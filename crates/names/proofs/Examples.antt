@@ -1,10 +1,10 @@
 -- Forms beside the slots. A map itself is a lawful one, which takes every name. One that walks past a name isn't, over any cache in which a slot
 -- is empty, and one that forgets the other slots isn't, over any in which one holds a name. Assumes nothing.
-use Prim.Native.Nat.{ℕ, ◌<◌}
+use Prim.Native.Nat.{ℕ}
 use native.Mathlib.Omega.{arith}
 use mathlib.Core.Path.{◌≡◌, refl, sym, ap}
 use mathlib.Core.Bool.{cond}
-use mathlib.Core.List.{List, [], ◌∷◌}
+use mathlib.Core.List.{List, []}
 use lib.Dec.{eqb}
 use Rattle.names.specs.Form.{Held, nothing, name, Put, done, no, Form}
 use Rattle.names.specs.Inner.Map.{updated, Bytes, Lawful}

@@ -11,7 +11,7 @@ use Rattle.references.specs.declared.Opening.TheVariants as opening
 use Rattle.references.specs.declared.Reference.{Reference}
 use Rattle.references.specs.declared.Reference.TheVariants as ref
 use Rattle.references.specs.Header.{is_new, start_of, reference_at, behind, references, opened, header_of}
-use Rattle.names.specs.Form.{Put, done, no, Form, Left, left, after, put_all, over}
+use Rattle.names.specs.Form.{done, no, Form, Left, left, after, put_all, over}
 
 -- of n references those from number i on are left, from p on
 pub record Going (F : Form) (whole : Left F.State) (b : List ℕ) (wide n i p : ℕ) (s : F.State) : Type 0 where

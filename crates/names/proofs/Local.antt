@@ -1,7 +1,7 @@
 -- What a header that is read to its end leaves of a cache is the same whatever stands behind it, whatever the form of cache: it says the same, and
 -- the names that it puts lie before its rest. A reader of headers that is local so leaves of the input up to the rest, alone, what it leaves of the
 -- input; and of all that begins with a header, what it leaves of the header. Assumes nothing.
-use Prim.Native.Nat.{ℕ, ◌+◌, ◌≤◌}
+use Prim.Native.Nat.{ℕ, ◌≤◌}
 use native.Mathlib.Omega.{arith}
 use native.Mathlib.Nat.{le_refl}
 use mathlib.Core.Path.{◌≡◌, refl, sym, ◌∙◌}

@@ -5,75 +5,112 @@
 // output by the programs' tests.
 //
 // A failure is final. What can't be written is said once, and FAILED is answered instead of a number of bytes: who gets it adds nothing, writes
-// nothing and answers it again.
+// nothing and answers it again. How a program ended is noted where it shows, and `status` gives it to `main`.
 
 #![tactic(auto)]
 
 ghost use Rattle.std.specs.Prelude.{◌≤◌, ◌+◌, length};
 
-use libc::{STDERR_FILENO, STDOUT_FILENO};
+use std::io::{Print, Stderr, Stdout};
+use std::process::ExitCode;
 
 // The output has failed.
 pub const FAILED: usize = usize::MAX;
 
-// Where a program says how it ended, for the script that runs it: the language has no exit status.
-const STATUS_FILENO: i32 = 3;
+// Standard output behind a lent buffer, where failures are said, and how the program ended, 0 where nothing else was noted.
+#[derive(Drop)]
+pub struct Out<'a> {
+    room: &'a mut [u8],
+    to: Stdout,
+    errors: Stderr,
+    ended: u8,
+}
 
-pub fn text(out: &mut [u8], at: usize, text: &[u8]) -> usize {
+impl<'a> Out<'a> {
+    pub fn new(room: &'a mut [u8], to: Stdout, errors: Stderr) -> Out<'a> {
+        Out {
+            room,
+            to,
+            errors,
+            ended: 0,
+        }
+    }
+}
+
+pub fn text(out: &mut Out<'_>, at: usize, text: &[u8]) -> usize {
     if at == FAILED {
         return FAILED;
     }
-    let from = least(at, out.len());
-    if text.len() <= out.len() - from {
-        return copy(out, from, text);
+    let from = least(at, out.room.len());
+    if text.len() <= out.room.len() - from {
+        return copy(out.room, from, text);
     }
-    if !write(&out[..from]) {
+    if flush(out, from) == FAILED {
         return FAILED;
     }
-    if text.len() <= out.len() {
-        return copy(out, 0, text);
+    if text.len() <= out.room.len() {
+        return copy(out.room, 0, text);
     }
-    if !write(text) {
-        return FAILED;
+    if write(&out.to, text) {
+        return 0;
     }
-    0
+    failed(out)
 }
 
 // Writes what waits. Answers that nothing waits any more, or FAILED.
-pub fn flush(out: &[u8], at: usize) -> usize {
+pub fn flush(out: &mut Out<'_>, at: usize) -> usize {
     if at == FAILED {
         return FAILED;
     }
-    let n = least(at, out.len());
-    if !write(&out[..n]) {
-        return FAILED;
+    let to = out.to;
+    let n = least(at, out.room.len());
+    if write(&to, &out.room[..n]) {
+        return 0;
     }
-    0
+    failed(out)
 }
 
-fn write(text: &[u8]) -> bool {
-    if io::write_all(STDOUT_FILENO, text) {
-        return true;
-    }
-    ends(b"the output could not be written\n", b"3");
-    false
+fn failed(out: &mut Out<'_>) -> usize {
+    ends(out, b"the output could not be written\n", 3);
+    FAILED
 }
 
 // What a program says that can't read its input.
-pub fn unread() {
-    ends(b"standard input could not be read\n", b"2");
+pub fn unread(out: &mut Out<'_>) {
+    ends(out, b"standard input could not be read\n", 2);
 }
 
-// Writes what waits of an answer that is a refusal, and tells by the status that it is one.
-pub fn refused(out: &[u8], at: usize) {
+// Writes what waits of an answer that is a refusal, and notes that it is one.
+pub fn refused(out: &mut Out<'_>, at: usize) {
     if flush(out, at) != FAILED {
-        io::write_all(STATUS_FILENO, b"1");
+        out.ended = 1;
     }
 }
 
-fn ends(text: &[u8], status: &[u8]) {
-    io::write_all(STDERR_FILENO, text);
-    io::write_all(STATUS_FILENO, status);
+fn ends(out: &mut Out<'_>, text: &[u8], status: u8) {
+    write(&out.errors, text);
+    out.ended = status;
+}
+
+// How the program ended. 0: well. 1: the record is refused. 2: the input could not be read. 3: the output could not be written.
+pub fn status(out: &Out<'_>) -> ExitCode {
+    ExitCode::from(out.ended)
+}
+
+// Writes all of a text, or stops at the first write that takes nothing or fails, and answers whether all is written. Where there is none,
+// nothing is called.
+fn write(to: &impl Print, text: &[u8]) -> bool {
+    let mut done = 0;
+    while done < text.len() {
+        let Ok(n) = to.write_some(&text[done..]) else {
+            return false;
+        };
+        if n == 0 {
+            return false;
+        }
+        done += n;
+    }
+    true
 }
 
 fn copy(out: &mut [u8], at: usize, text: &[u8]) -> usize
@@ -93,14 +130,31 @@ fn least(a: usize, b: usize) -> usize
     if a < b { a } else { b }
 }
 
-pub fn number(out: &mut [u8], at: usize, n: u64) -> usize {
+pub fn number(out: &mut Out<'_>, at: usize, n: u64) -> usize {
     let mut digits = [0u8; 20];
-    let k = io::decimal(n, &mut digits);
-    text(out, at, &digits[..k])
+    let first = decimal(n, &mut digits);
+    text(out, at, &digits[first..])
+}
+
+// Puts a number's decimal digits at the end of a text, and answers where they begin. No number has more than twenty.
+fn decimal(n: u64, digits: &mut [u8; 20]) -> usize
+    ensures { result ≤ 20 }
+{
+    let mut rest = n;
+    let mut first = 20;
+    while 0 < first {
+        first -= 1;
+        digits[first] = b'0' + (rest % 10) as u8;
+        rest /= 10;
+        if rest == 0 {
+            return first;
+        }
+    }
+    first
 }
 
 // The number whose two's complement a word is.
-pub fn twos(out: &mut [u8], at: usize, word: u64) -> usize {
+pub fn twos(out: &mut Out<'_>, at: usize, word: u64) -> usize {
     if 9223372036854775807 < word {
         return field(out, at, b"-", u64::MAX - word + 1);
     }
@@ -108,19 +162,19 @@ pub fn twos(out: &mut [u8], at: usize, word: u64) -> usize {
 }
 
 // A number behind its name.
-pub fn field(out: &mut [u8], at: usize, name: &[u8], n: u64) -> usize {
+pub fn field(out: &mut Out<'_>, at: usize, name: &[u8], n: u64) -> usize {
     let named = text(out, at, name);
     number(out, named, n)
 }
 
 // The same as a line.
-pub fn line(out: &mut [u8], at: usize, name: &[u8], n: u64) -> usize {
+pub fn line(out: &mut Out<'_>, at: usize, name: &[u8], n: u64) -> usize {
     let put = field(out, at, name, n);
     text(out, put, b"\n")
 }
 
 // A text in which # and a digit stand for one of some numbers, by its place among them.
-pub fn form(out: &mut [u8], at: usize, form: &[u8], numbers: &[u64]) -> usize {
+pub fn form(out: &mut Out<'_>, at: usize, form: &[u8], numbers: &[u64]) -> usize {
     let mut put = at;
     let mut before = 0u8;
     let mut i = 0;
@@ -134,7 +188,7 @@ pub fn form(out: &mut [u8], at: usize, form: &[u8], numbers: &[u64]) -> usize {
 }
 
 // What a letter of a form stands for, by the one before it.
-fn filled(out: &mut [u8], at: usize, before: u8, letter: u8, numbers: &[u64]) -> usize {
+fn filled(out: &mut Out<'_>, at: usize, before: u8, letter: u8, numbers: &[u64]) -> usize {
     if letter == b'#' {
         return at;
     }
@@ -152,7 +206,7 @@ fn digit(letter: u8) -> usize {
 }
 
 // Nothing where there are fewer numbers.
-fn nth(out: &mut [u8], at: usize, k: usize, numbers: &[u64]) -> usize {
+fn nth(out: &mut Out<'_>, at: usize, k: usize, numbers: &[u64]) -> usize {
     if k < numbers.len() {
         return number(out, at, numbers[k]);
     }
@@ -160,14 +214,12 @@ fn nth(out: &mut [u8], at: usize, k: usize, numbers: &[u64]) -> usize {
 }
 
 // The bits of a double, sixteen letters of hex.
-pub fn bits(out: &mut [u8], at: usize, n: u64) -> usize {
-    let mut letters = [0u8; 16];
-    let k = io::hex(n, 16, &mut letters);
-    text(out, at, &letters[..k])
+pub fn bits(out: &mut Out<'_>, at: usize, n: u64) -> usize {
+    hex(out, at, &n.to_be_bytes())
 }
 
 // Bytes as hex.
-pub fn hex(out: &mut [u8], at: usize, bytes: &[u8]) -> usize {
+pub fn hex(out: &mut Out<'_>, at: usize, bytes: &[u8]) -> usize {
     let mut put = at;
     let mut i = 0;
     while i < bytes.len() {
@@ -178,7 +230,7 @@ pub fn hex(out: &mut [u8], at: usize, bytes: &[u8]) -> usize {
 }
 
 // Bytes as a word: - where there are none.
-pub fn word(out: &mut [u8], at: usize, bytes: &[u8]) -> usize {
+pub fn word(out: &mut Out<'_>, at: usize, bytes: &[u8]) -> usize {
     if bytes.len() == 0 {
         return text(out, at, b"-");
     }
@@ -186,7 +238,7 @@ pub fn word(out: &mut [u8], at: usize, bytes: &[u8]) -> usize {
 }
 
 // A byte as two letters.
-fn pair(out: &mut [u8], at: usize, byte: u8) -> usize {
+fn pair(out: &mut Out<'_>, at: usize, byte: u8) -> usize {
     let letters = [letter(byte / 16), letter(byte % 16)];
     text(out, at, &letters)
 }

@@ -13,7 +13,7 @@ ghost use Rattle.reading.specs.Answer as def;
 ghost use Rattle.reading.specs.Asked.{plainly};
 
 // What a segment of a path is of.
-#[derive(Drop)]
+#[derive(Clone, Copy)]
 pub enum Kind {
     Tuple,
     List,
@@ -24,7 +24,7 @@ pub enum Kind {
 }
 
 // "A segment holds its kind and one number: the index, the key's offset for a map value, else 0."
-#[derive(Drop)]
+#[derive(Clone, Copy)]
 pub struct Segment {
     pub kind: Kind,
     pub number: u64,
@@ -32,7 +32,7 @@ pub struct Segment {
 
 // What reading answers: the number (0 is Done), the end where it is Done, the refusal's offset and extra, the terms begun, the deepest
 // nesting begun, and the path.
-#[derive(Drop)]
+#[derive(Clone, Copy)]
 pub struct Answer {
     pub number: u64,
     pub end: usize,
@@ -59,7 +59,7 @@ pub fn kind_number(kind: Kind) -> u64
 }
 
 // Why an answer is refused that has no path: before reading, or behind a term that was read.
-#[derive(Drop)]
+#[derive(Clone, Copy)]
 pub enum Cause {
     Eof,
     Tag,
@@ -140,7 +140,7 @@ pub fn is_natural(b: &[u8], most: u64, at: usize) -> bool
 }
 
 // Whether reading may begin: the limit is 1 to 64 and the input no longer than 16,777,216 bytes.
-#[derive(Drop)]
+#[derive(Clone, Copy)]
 pub enum Start {
     Reads,
     No(Cause),

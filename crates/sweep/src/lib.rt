@@ -5,6 +5,8 @@
 
 ghost use Rattle.std.specs.Prelude.{◌≤◌, ◌<◌, length};
 
+use print::Out;
+
 // Puts a number's digits into a text from `from` to `end`, the last worth least. Its base is how many digits there are.
 pub fn spell(text: &mut [u8], from: usize, end: usize, digits: &[u8], number: usize)
     requires { (end ≤ length text.old) × (0 < length digits.now) }
@@ -29,33 +31,30 @@ pub fn differs(row: &mut [u8], i: usize, answer: u8) -> bool
 }
 
 // What is printed is written at once. Each function takes and answers 0, or print::FAILED, after which nothing is written.
-pub fn text(at: usize, text: &[u8]) -> usize {
-    if at == print::FAILED {
-        return at;
-    }
-    print::flush(text, text.len())
+pub fn text(out: &mut Out<'_>, at: usize, text: &[u8]) -> usize {
+    let put = print::text(out, at, text);
+    print::flush(out, put)
 }
 
 // A number behind its name.
-pub fn field(at: usize, name: &[u8], n: u64) -> usize {
-    let mut out = io::buffer();
-    let put = print::field(&mut out, at, name, n);
-    print::flush(&out, put)
+pub fn field(out: &mut Out<'_>, at: usize, name: &[u8], n: u64) -> usize {
+    let put = print::field(out, at, name, n);
+    print::flush(out, put)
 }
 
 // The same as a line.
-pub fn line(at: usize, name: &[u8], n: u64) -> usize {
-    text(field(at, name, n), b"\n")
+pub fn line(out: &mut Out<'_>, at: usize, name: &[u8], n: u64) -> usize {
+    let put = field(out, at, name, n);
+    text(out, put, b"\n")
 }
 
 // A row's runs, a space and ANSWER*COUNT for each, and the end of the line.
-pub fn print_row(at: usize, row: &[u8]) -> usize {
-    let mut out = io::buffer();
-    let put = print_runs(&mut out, at, row);
-    print::flush(&out, put)
+pub fn print_row(out: &mut Out<'_>, at: usize, row: &[u8]) -> usize {
+    let put = print_runs(out, at, row);
+    print::flush(out, put)
 }
 
-fn print_runs(out: &mut [u8], at: usize, row: &[u8]) -> usize {
+fn print_runs(out: &mut Out<'_>, at: usize, row: &[u8]) -> usize {
     let mut put = at;
     let mut i = 0;
     while i < row.len() {

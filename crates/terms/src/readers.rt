@@ -17,7 +17,7 @@ use reading::LIMIT;
 use rows::Counted;
 
 // A term: the readers below call each other through it.
-#[cycle(body_captured_child_export_function_kids_large_tuple_list_map_named_reference_required_small_tuple_term)]
+#[cycle(readers)]
 pub(crate) fn term(
     b: &[u8],
     asked: &[usize; 6],
@@ -43,7 +43,7 @@ pub(crate) fn term(
 }
 
 // What stands behind a tag.
-#[cycle(body_captured_child_export_function_kids_large_tuple_list_map_named_reference_required_small_tuple_term)]
+#[cycle(readers)]
 fn body(
     b: &[u8],
     asked: &[usize; 6],
@@ -72,7 +72,7 @@ fn body(
 }
 
 // A tuple whose arity has one byte.
-#[cycle(body_captured_child_export_function_kids_large_tuple_list_map_named_reference_required_small_tuple_term)]
+#[cycle(readers)]
 fn small_tuple(
     b: &[u8],
     asked: &[usize; 6],
@@ -101,7 +101,7 @@ fn small_tuple(
 }
 
 // A tuple whose arity has four bytes.
-#[cycle(body_captured_child_export_function_kids_large_tuple_list_map_named_reference_required_small_tuple_term)]
+#[cycle(readers)]
 fn large_tuple(
     b: &[u8],
     asked: &[usize; 6],
@@ -130,7 +130,7 @@ fn large_tuple(
 }
 
 // A list: its elements and its tail.
-#[cycle(body_captured_child_export_function_kids_large_tuple_list_map_named_reference_required_small_tuple_term)]
+#[cycle(readers)]
 fn list(
     b: &[u8],
     asked: &[usize; 6],
@@ -159,7 +159,7 @@ fn list(
 }
 
 // A map: a key and a value for each.
-#[cycle(body_captured_child_export_function_kids_large_tuple_list_map_named_reference_required_small_tuple_term)]
+#[cycle(readers)]
 fn map(
     b: &[u8],
     asked: &[usize; 6],
@@ -188,7 +188,7 @@ fn map(
 }
 
 // A child of a kind that is required: it is read whole, then judged.
-#[cycle(body_captured_child_export_function_kids_large_tuple_list_map_named_reference_required_small_tuple_term)]
+#[cycle(readers)]
 fn required(
     b: &[u8],
     asked: &[usize; 6],
@@ -212,7 +212,7 @@ fn required(
 }
 
 // An atom, and n bytes: all of a pid and of a port, and the end of a reference.
-#[cycle(body_captured_child_export_function_kids_large_tuple_list_map_named_reference_required_small_tuple_term)]
+#[cycle(readers)]
 fn named(
     b: &[u8],
     asked: &[usize; 6],
@@ -233,7 +233,7 @@ fn named(
 }
 
 // A reference: a count, its atom, the creation and so many ids.
-#[cycle(body_captured_child_export_function_kids_large_tuple_list_map_named_reference_required_small_tuple_term)]
+#[cycle(readers)]
 fn reference(
     b: &[u8],
     asked: &[usize; 6],
@@ -253,7 +253,7 @@ fn reference(
 }
 
 // A function of a module: two atoms and an arity.
-#[cycle(body_captured_child_export_function_kids_large_tuple_list_map_named_reference_required_small_tuple_term)]
+#[cycle(readers)]
 fn export(
     b: &[u8],
     asked: &[usize; 6],
@@ -277,7 +277,7 @@ fn export(
 }
 
 // A function with its free terms.
-#[cycle(body_captured_child_export_function_kids_large_tuple_list_map_named_reference_required_small_tuple_term)]
+#[cycle(readers)]
 fn function(
     b: &[u8],
     asked: &[usize; 6],
@@ -297,7 +297,7 @@ fn function(
 }
 
 // Its module, two numbers, its pid and its free terms, of which there are n.
-#[cycle(body_captured_child_export_function_kids_large_tuple_list_map_named_reference_required_small_tuple_term)]
+#[cycle(readers)]
 fn captured(
     b: &[u8],
     asked: &[usize; 6],
@@ -330,7 +330,7 @@ fn captured(
 }
 
 // n children. Most are short leaves, which are read here, with what reading leaves behind in locals.
-#[cycle(body_captured_child_export_function_kids_large_tuple_list_map_named_reference_required_small_tuple_term)]
+#[cycle(readers)]
 fn kids(
     b: &[u8],
     asked: &[usize; 6],
@@ -379,7 +379,7 @@ fn kids(
 
 // A child in the loop of `kids`, as `term` reads it; the commonest that have children go straight to their readers. It has one caller, so
 // that it becomes part of the loop, and a container within another costs one call, not two.
-#[cycle(body_captured_child_export_function_kids_large_tuple_list_map_named_reference_required_small_tuple_term)]
+#[cycle(readers)]
 fn child(
     b: &[u8],
     asked: &[usize; 6],
