@@ -1,4 +1,4 @@
-/* The example: reads a record of the bench from standard input, walks its tape, prints its rows as a table, and answers with an acknowledgement.
+/* The boards' example: reads a record of the bench from standard input, walks its tape, prints its rows as a table, and answers with an acknowledgement.
  *
  * A record is a map that has a channel, a cell and a list of rows, each a tuple of seconds, millivolts, milliamps and degrees. What else the map has is
  * named. Everything is judged, the page written and the acknowledgement with it, before anything is printed: what is printed is the whole record and
