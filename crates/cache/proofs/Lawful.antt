@@ -4,14 +4,14 @@ use Prim.Native.Nat.{ℕ, zero, suc, ◌+◌, ◌^◌, ◌≤◌, ◌<◌}
 use native.Mathlib.Omega.{arith}
 use mathlib.Core.Path.{◌≡◌, refl, sym, ap, ap₂, ◌∙◌}
 use mathlib.Core.Bool.{Bool, true, false, cond}
-use mathlib.Core.List.{List, [], ◌∷◌}
+use mathlib.Core.List.{List}
 use borrow.Author.Tests.{leb-true, le-leb, lt-leb}
 use lib.Dec.{leb}
 use lib.ListN.{length, replicate}
 use Rattle.numbers.specs.Numbers as number
 use Rattle.numbers.specs.Numbers.{among}
 use Rattle.numbers.proofs.Laws.{Shown, by_test}
-use Rattle.names.specs.Form.{Held, nothing, name, Put, done, no}
+use Rattle.names.specs.Form.{nothing, name, Put, done, no}
 use Rattle.names.specs.Inner.Map.{updated, one, held_slots, Bytes, Lawful}
 use Rattle.names.proofs.Outcomes.{put_outcome}
 use Rattle.cache.specs.Names.{store_bytes, filled, count_of, filled_slots, marked, stored, view, Slots, put, slots}

@@ -9,7 +9,7 @@ use mathlib.Core.List.{List, [], ◌∷◌, ◌++◌, append_assoc}
 use borrow.Author.Tests.{ltb-true, ltb-false}
 use lib.Dec.{ltb}
 use lib.ListN.{length, get_or, set, take, drop}
-use lib.Seq.{sets, sets_eq, length-sets, length-take-le, get_or_at, drop_at, take_at, drop-drop, get_or-set_other, drop-set-lt, drop-set-add, take-set-le}
+use lib.Seq.{sets, sets-eq, length-sets, length-take-le, get_or_at, drop_at, take_at, drop-drop, get_or-set_other, drop-set-lt, drop-set-add, take-set-le}
 use Rattle.cache.specs.Names.{slot_bytes, stored, store_bytes, name_in}
 use Rattle.cache.proofs.Below.{Below, sets_below}
 
@@ -31,7 +31,7 @@ read_back s q n h =
     let front : List ℕ = take q s in
     let behind : List ℕ = drop (q + suc (length n)) s in
     let size : length front ≡ q = length-take-le q s (omega arith) in
-    ap (λ (l : List ℕ). take (get_or l q 0) (drop (q + 1) l)) (sets_eq (length n ∷ n) s q h ∙ append_assoc front (length n ∷ n) behind)
+    ap (λ (l : List ℕ). take (get_or l q 0) (drop (q + 1) l)) (sets-eq (length n ∷ n) s q h ∙ append_assoc front (length n ∷ n) behind)
     ∙ ap (λ (m : ℕ). take m (drop (q + 1) (front ++ (length n ∷ (n ++ behind))))) (get_or_at front (length n) (n ++ behind) 0 q size)
     ∙ ap (take (length n)) (sym (drop-drop 1 q (front ++ (length n ∷ (n ++ behind)))) ∙ ap (drop 1) (drop_at front (length n ∷ (n ++ behind)) q size))
     ∙ take_at n behind (length n) refl

@@ -4,7 +4,7 @@ use Prim.Native.Nat.{ℕ}
 use mathlib.Core.Path.{◌≡◌, ap, ◌∙◌}
 use mathlib.Core.List.{List}
 use Rattle.references.specs.Header.{header_of}
-use Rattle.names.specs.Form.{Held, Left}
+use Rattle.names.specs.Form.{Left}
 use Rattle.names.specs.Inner.Map.{updated_all, completed, Bytes}
 use Rattle.names.proofs.Maps.{header-held, header-sound}
 use Rattle.cache.specs.declared.Cache.{Cache}

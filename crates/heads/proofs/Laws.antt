@@ -1,14 +1,11 @@
 -- Which answers name a run of bytes, and what the last arm of a match on an answer says. Assumes nothing.
 use Prim.Native.Nat.{ℕ}
 use mathlib.Core.Path.{◌≡◌, refl}
-use mathlib.Core.List.{List, [], ◌∷◌}
-use denote.Enum.Declared.{tag_of}
-use types.Run.{OneOf, miss}
+use mathlib.Core.List.{List, []}
 use Rattle.heads.specs.Inner.Run.{none, run_of, part_of}
 use Rattle.heads.specs.Inner.Head.{named}
 use Rattle.heads.specs.declared.Value.{Value}
 use Rattle.heads.specs.declared.Value.TheVariants as value
-use Rattle.heads.specs.contracts.Value.{the_type}
 
 -- an answer is an atom's, a binary's, a refusal, or none of these
 module _ (P : Value → Type 0) (atom : (s n : ℕ) → P (value.Atom s n)) (binary : (s n : ℕ) → P (value.Binary s n)) (no : (n o x : ℕ) → P (value.No n o x)) (other : (v : Value) → run_of v ≡ none → P v) where
@@ -32,27 +29,21 @@ module _ (P : Value → Type 0) (atom : (s n : ℕ) → P (value.Atom s n)) (bin
   by_run (value.Function i j p k l) = other (value.Function i j p k l) refl
   by_run (value.No n o x) = no n o x
 
--- the variants but Atom, and but Atom and Binary, by their numbers
-abbrev not_atom : List ℕ
-not_atom = 0 ∷ 1 ∷ 2 ∷ 4 ∷ 5 ∷ 6 ∷ 7 ∷ 8 ∷ 9 ∷ 10 ∷ 11 ∷ 12 ∷ 13 ∷ 14 ∷ 15 ∷ 16 ∷ 17 ∷ []
-
-abbrev no_run : List ℕ
-no_run = 0 ∷ 1 ∷ 2 ∷ 4 ∷ 5 ∷ 6 ∷ 7 ∷ 9 ∷ 10 ∷ 11 ∷ 12 ∷ 13 ∷ 14 ∷ 15 ∷ 16 ∷ 17 ∷ []
-
-pub not_named : (f : ℕ → ℕ → Value) (v : Value) → OneOf not_atom (tag_of the_type v) → v ≡ named v f
+-- what is no Atom, and what is neither Atom nor Binary
+pub not_named : (f : ℕ → ℕ → Value) (v : Value) → ((s n : ℕ) → v ≡ value.Atom s n → ⊥) → v ≡ named v f
 unfolding named
 not_named f =
-    by_run (λ (v : Value). OneOf not_atom (tag_of the_type v) → v ≡ named v f)
-    (λ s n k. absurd (miss not_atom 3 tt k))
+    by_run (λ (v : Value). ((s n : ℕ) → v ≡ value.Atom s n → ⊥) → v ≡ named v f)
+    (λ s n k. absurd (k s n refl))
     (λ s n k. refl)
     (λ n o x k. refl)
     (λ v e k. rw e)
 
-pub no_part : (b : List ℕ) (v : Value) → OneOf no_run (tag_of the_type v) → [] ≡ part_of b (run_of v)
+pub no_part : (b : List ℕ) (v : Value) → ((s n : ℕ) → v ≡ value.Atom s n → ⊥) → ((s n : ℕ) → v ≡ value.Binary s n → ⊥) → [] ≡ part_of b (run_of v)
 unfolding part_of
 no_part b =
-    by_run (λ (v : Value). OneOf no_run (tag_of the_type v) → [] ≡ part_of b (run_of v))
-    (λ s n k. absurd (miss no_run 3 tt k))
-    (λ s n k. absurd (miss no_run 8 tt k))
-    (λ n o x k. refl)
-    (λ v e k. rw e)
+    by_run (λ (v : Value). ((s n : ℕ) → v ≡ value.Atom s n → ⊥) → ((s n : ℕ) → v ≡ value.Binary s n → ⊥) → [] ≡ part_of b (run_of v))
+    (λ s n j k. absurd (j s n refl))
+    (λ s n j k. absurd (k s n refl))
+    (λ n o x j k. refl)
+    (λ v e j k. rw e)

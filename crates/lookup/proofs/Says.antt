@@ -87,7 +87,7 @@ module _ (k : Key) where
   none_found p no_pairs = refl
   none_found p (one_more {x} e w) = rw (none_found _ w, told_unequal k x e)
 
-  last_found : {p q : ℕ} {ts : Forest} → Last k q p ts → found k p ts ≡ place.At q
+  last_found : {q p : ℕ} {ts : Forest} → Last k q p ts → found k p ts ≡ place.At q
   unfolding found
   last_found (first e w f) = rw (none_found _ w, told-equal e, f)
   last_found (later l) = rw (last_found l)

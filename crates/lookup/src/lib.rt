@@ -15,14 +15,14 @@ use fields::Integer;
 use reading::{Answer, Cause};
 
 // What is looked for: an atom's name, which is passed beside it, or an integer.
-#[derive(Drop)]
+#[derive(Clone, Copy)]
 enum Key {
     Name,
     Number(i64),
 }
 
 // Where a value stands.
-#[derive(Drop)]
+#[derive(Clone, Copy)]
 enum Place {
     At(usize),
     Nowhere,

@@ -5,7 +5,7 @@ use native.Mathlib.Omega.{arith}
 use mathlib.Core.Path.{◌≡◌, refl, ap, sym, ◌∙◌}
 use mathlib.Core.List.{List, [], ◌∷◌, ◌++◌}
 use lib.ListN.{length, get_or, drop}
-use lib.Seq.{take-length, sets_eq}
+use lib.Seq.{take-length, sets-eq}
 use mathlib.Core.Bool.{Bool, true, false, cond}
 use lib.Dec.{ltb}
 use borrow.Author.Tests.{lt-ltb, le-ltb, ltb-false, eq-eqb, ne_eqb}
@@ -157,7 +157,7 @@ unfolding taped
 laid-front from t tape h =
     let n = words-length t from 0 0 in
     let z : 0 + length (words t from 0 0) ≡ cell_words * size t = omega arith in
-    sets_eq (words t from 0 0) tape 0 (omega arith) ∙ ap (λ (k : ℕ). words t from 0 0 ++ drop k tape) z
+    sets-eq (words t from 0 0) tape 0 (omega arith) ∙ ap (λ (k : ℕ). words t from 0 0 ++ drop k tape) z
 
 -- no cause has the number of Done
 pub numbered : (c : Cause) → ¬ (number_of c ≡ 0)

@@ -2,7 +2,7 @@
 use Rattle.std.proofs.Common.{◌≡◌, ℕ, List, [], ◌∷◌, get_or, pos, negsuc, sym, refl, ap, ◌∙◌}
 use Rattle.numbers.specs.Numbers as number
 use Rattle.fields.specs.Be.{bytes_of, digits_of}
-use Rattle.layouts.specs.Tree.{count, bytes, bytes_all, depths}
+use Rattle.layouts.specs.Tree.{count, bytes_all, depths}
 use Rattle.measure.specs.Item.{integer, double, tuple, list, map, nil, kids_of, allowed}
 use Rattle.measure.specs.Term.{first, behind, ended, big, integer_tree, tree_of, trees_of, sound, written, accepted}
 use Rattle.writer.specs.Write.{Left, left, write_over}

@@ -1,6 +1,6 @@
 -- Bytes that were put: by stores, side by side, as a number by its halves, and with others that may stand behind them. Assumes nothing.
 use Rattle.std.proofs.Common.{◌≡◌, ℕ, ◌+◌, ◌-◌, ◌/◌, ◌%◌, ◌^◌, ◌<◌, ◌≤◌, List, [], ◌∷◌, ◌++◌, length, get_or, take, drop, set, sym, refl, ap, ◌∙◌, append_assoc, add-one, arith, length-append, length-set, length-take-le, take-suc, take-take, drop-drop, take_at, drop-set-lt, drop_at}
-use lib.Seq.{sets, sets_eq, length-sets, take-set-lt, set_at, append_snoc, take-append-add, paste, take-paste, drop-paste, length-paste}
+use lib.Seq.{sets, sets-eq, length-sets, take-set-lt, set_at, append_snoc, take-append-add, paste, take-paste, drop-paste, length-paste}
 use Rattle.fields.specs.Be.{bytes_of}
 use Rattle.fields.proofs.Inverse.{bytes_of-one, bytes_of_joined}
 use Rattle.writer.specs.Inner.Put.{Wrote}
@@ -8,7 +8,7 @@ use Rattle.writer.specs.Inner.Put.{Wrote}
 -- a run of stores, and no more
 pub stored : (old : List ℕ) (p q : ℕ) (l : List ℕ) → q ≡ p + length l → q ≤ length old → Wrote old (sets old p l) p q q l
 stored old p q l e h =
-    let s = rw (← e) at (sets_eq l old p (omega arith)) in
+    let s = rw (← e) at (sets-eq l old p (omega arith)) in
     let n : length (take p old ++ l) ≡ q = length-append (take p old) l ∙ ap (λ (m : ℕ). m + length l) (length-take-le p old (omega arith)) ∙ sym e in
     record {
       to = e;
