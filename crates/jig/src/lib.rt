@@ -136,9 +136,9 @@ pub fn sill_get(filled: &[u64; 4], store: &[u8], slot: u8, told: &mut [u64; 3])
 // Reads an atom header, as header::read does. Told are number, where the rest begins, and extra; the names completed are in the
 // cache, refused or not.
 pub fn sill_header(b: &[u8], filled: &mut [u64; 4], store: &mut [u8], told: &mut [u64; 3])
-    ensures tells { told.new ≡ header_words (answer_of (header_over b.now (record { filled = filled.entry.now }) store.old)) }
-    ensures marks { filled.exit.now ≡ (header_over b.now (record { filled = filled.entry.now }) store.old).cache.cache.filled }
-    ensures stores { store.new ≡ (header_over b.now (record { filled = filled.entry.now }) store.old).cache.store }
+    ensures tells { told.new ≡ header_words (answer_of (header_over b.now (record { filled = filled.old }) store.old)) }
+    ensures marks { filled.new ≡ (header_over b.now (record { filled = filled.old }) store.old).cache.cache.filled }
+    ensures stores { store.new ≡ (header_over b.now (record { filled = filled.old }) store.old).cache.store }
 {
     let words = *filled;
     let h = header::read(b, Cache { filled: words }, store);
@@ -160,10 +160,10 @@ pub fn sill_message(
     told: &mut [u64; 7],
     path: &mut [u64; 128],
 )
-    ensures tells { Tells (λ r. Promised (message_before slots b.now (message_over b.now limit (record { filled = filled.entry.now }) store.old)) b.now limit r tape.old tape.new) told.new path.old path.new }
-    ensures marks { filled.exit.now ≡ (message_over b.now limit (record { filled = filled.entry.now }) store.old).cache.cache.filled }
-    ensures stores { store.new ≡ (message_over b.now limit (record { filled = filled.entry.now }) store.old).cache.store }
-    ensures notes { run.new ≡ noted_by b.now (message_over b.now limit (record { filled = filled.entry.now }) store.old) run.old }
+    ensures tells { Tells (λ r. Promised (message_before slots b.now (message_over b.now limit (record { filled = filled.old }) store.old)) b.now limit r tape.old tape.new) told.new path.old path.new }
+    ensures marks { filled.new ≡ (message_over b.now limit (record { filled = filled.old }) store.old).cache.cache.filled }
+    ensures stores { store.new ≡ (message_over b.now limit (record { filled = filled.old }) store.old).cache.store }
+    ensures notes { run.new ≡ noted_by b.now (message_over b.now limit (record { filled = filled.old }) store.old) run.old }
 {
     let words = *filled;
     let m = message::read(b, limit, Cache { filled: words }, store, run, tape);

@@ -124,9 +124,9 @@ pub extern "C" fn sill_header(
     store: &mut [u8],
     told: &mut [u64; 3],
 )
-    ensures tells { told.new ≡ header_words (answer_of (header_over b.now (record { filled = filled.entry.now }) store.old)) }
-    ensures marks { filled.exit.now ≡ (header_over b.now (record { filled = filled.entry.now }) store.old).cache.cache.filled }
-    ensures stores { store.new ≡ (header_over b.now (record { filled = filled.entry.now }) store.old).cache.store }
+    ensures tells { told.new ≡ header_words (answer_of (header_over b.now (record { filled = filled.old }) store.old)) }
+    ensures marks { filled.new ≡ (header_over b.now (record { filled = filled.old }) store.old).cache.cache.filled }
+    ensures stores { store.new ≡ (header_over b.now (record { filled = filled.old }) store.old).cache.store }
 {
     jig::sill_header(b, filled, store, told);
 }
@@ -142,10 +142,10 @@ pub extern "C" fn sill_message(
     told: &mut [u64; 7],
     path: &mut [u64; 128],
 )
-    ensures tells { Tells (λ r. Promised (message_before slots b.now (message_over b.now limit (record { filled = filled.entry.now }) store.old)) b.now limit r tape.old tape.new) told.new path.old path.new }
-    ensures marks { filled.exit.now ≡ (message_over b.now limit (record { filled = filled.entry.now }) store.old).cache.cache.filled }
-    ensures stores { store.new ≡ (message_over b.now limit (record { filled = filled.entry.now }) store.old).cache.store }
-    ensures notes { run.new ≡ noted_by b.now (message_over b.now limit (record { filled = filled.entry.now }) store.old) run.old }
+    ensures tells { Tells (λ r. Promised (message_before slots b.now (message_over b.now limit (record { filled = filled.old }) store.old)) b.now limit r tape.old tape.new) told.new path.old path.new }
+    ensures marks { filled.new ≡ (message_over b.now limit (record { filled = filled.old }) store.old).cache.cache.filled }
+    ensures stores { store.new ≡ (message_over b.now limit (record { filled = filled.old }) store.old).cache.store }
+    ensures notes { run.new ≡ noted_by b.now (message_over b.now limit (record { filled = filled.old }) store.old) run.old }
 {
     jig::sill_message(b, limit, filled, store, run, tape, told, path);
 }
