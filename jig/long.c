@@ -87,10 +87,10 @@ static void stored(size_t n) {
     memcpy(bytes, (const uint8_t[]){131, 68, 1, 8, 6, 1, 'b'}, 7);
     lend();
     sill_get(filled, store, n, 5, told);
-    expect("sill_get, filled", n, STORED(SILL_DONE, 5 * 256 + 1, 1), SILL_NAME_TOLD, 1);
+    expect("sill_get, filled", n, STORED(SILL_DONE, 5 * 256 + 1, 1), SILL_GET_TOLD, 1);
     lend();
     sill_get(filled, store, n, 6, told);
-    expect("sill_get, empty", n, STORED(SILL_ABSENT), SILL_NAME_TOLD, 1);
+    expect("sill_get, empty", n, STORED(SILL_ABSENT), SILL_GET_TOLD, 1);
     lend();
     sill_header(bytes, 7, filled, store, n, told);
     expect("sill_header", n, STORED(SILL_DONE, 7), SILL_HEADER_TOLD, !fits);
@@ -108,38 +108,38 @@ static void stored(size_t n) {
 
     lend();
     sill_position(filled, store, n, run, 0, told);
-    expect("sill_position", n, STORED(SILL_DONE, 5 * 256 + 1, 1), SILL_NAME_TOLD, 1);
+    expect("sill_position", n, STORED(SILL_DONE, 5 * 256 + 1, 1), SILL_GET_TOLD, 1);
     lend();
     sill_position(filled, store, n, run, 1, told);
-    expect("sill_position, past", n, STORED(SILL_ABSENT), SILL_NAME_TOLD, 1);
+    expect("sill_position, past", n, STORED(SILL_ABSENT), SILL_GET_TOLD, 1);
     lend();
     run[1] = was_run[1] = 6;
     sill_position(filled, store, n, run, 0, told);
-    expect("sill_position, empty", n, STORED(SILL_ABSENT), SILL_NAME_TOLD, 1);
+    expect("sill_position, empty", n, STORED(SILL_ABSENT), SILL_GET_TOLD, 1);
 
     memcpy(bytes, (const uint8_t[]){MESSAGE}, 15);
     lend();
     sill_atom(bytes, 15, 13, filled, store, n, run, told);
-    expect("sill_atom", n, STORED(SILL_DONE, 5 * 256 + 1, 1), SILL_NAME_TOLD, 1);
+    expect("sill_atom", n, STORED(SILL_DONE, 5 * 256 + 1, 1), SILL_GET_TOLD, 1);
     lend();
     sill_atom(bytes, 15, 11, filled, store, n, run, told);
-    expect("sill_atom, past", n, STORED(SILL_ABSENT), SILL_NAME_TOLD, 1);
+    expect("sill_atom, past", n, STORED(SILL_ABSENT), SILL_GET_TOLD, 1);
     lend();
     sill_atom(bytes, 15, 9, filled, store, n, run, told);
-    expect("sill_atom, a tuple", n, STORED(SILL_TAG), SILL_NAME_TOLD, 1);
+    expect("sill_atom, a tuple", n, STORED(SILL_TAG), SILL_GET_TOLD, 1);
     lend();
     sill_atom(bytes, 14, 13, filled, store, n, run, told);
-    expect("sill_atom, cut", n, STORED(SILL_EOF), SILL_NAME_TOLD, 1);
+    expect("sill_atom, cut", n, STORED(SILL_EOF), SILL_GET_TOLD, 1);
     lend();
     sill_atom(bytes, 15, SIZE_MAX, filled, store, n, run, told);
-    expect("sill_atom, behind", n, STORED(SILL_EOF), SILL_NAME_TOLD, 1);
+    expect("sill_atom, behind", n, STORED(SILL_EOF), SILL_GET_TOLD, 1);
     lend();
     sill_atom(bytes, SILL_LONGEST + 1, 13, filled, store, n, run, told);
-    expect("sill_atom, long", n, STORED(SILL_LONG), SILL_NAME_TOLD, 1);
+    expect("sill_atom, long", n, STORED(SILL_LONG), SILL_GET_TOLD, 1);
 
     lend();
-    sill_message(bytes, 15, SILL_NESTING, filled, store, n, run, tape, WORDS, told, path);
-    expect("sill_message", n, STORED(SILL_DONE, 15, 0, 0, 3, 2, 0), SILL_READ_TOLD, !fits);
+    sill_message(bytes, 15, SILL_DEEPEST, filled, store, n, run, tape, WORDS, told, path);
+    expect("sill_message", n, STORED(SILL_DONE, 15, 0, 0, 3, 2, 0), SILL_TOLD, !fits);
     if (fits) {
         for (uint8_t k = 0; k < 2; k++) {
             sill_position(filled, store, n, run, k, told);
@@ -150,14 +150,14 @@ static void stored(size_t n) {
         failed |= memcmp(store + n, was_store + n, sizeof store - n) != 0;
     }
     lend();
-    sill_message(bytes, 1, SILL_NESTING, filled, store, n, run, tape, WORDS, told, path);
-    expect("sill_message, cut", n, STORED(SILL_EOF), SILL_READ_TOLD, 1);
+    sill_message(bytes, 1, SILL_DEEPEST, filled, store, n, run, tape, WORDS, told, path);
+    expect("sill_message, cut", n, STORED(SILL_EOF), SILL_TOLD, 1);
     lend();
-    sill_message(bytes, SILL_LONGEST + 1, SILL_NESTING, filled, store, n, run, tape, WORDS, told, path);
-    expect("sill_message, long", n, STORED(SILL_LONG), SILL_READ_TOLD, 1);
+    sill_message(bytes, SILL_LONGEST + 1, SILL_DEEPEST, filled, store, n, run, tape, WORDS, told, path);
+    expect("sill_message, long", n, STORED(SILL_LONG), SILL_TOLD, 1);
     lend();
     sill_message(bytes, SILL_LONGEST + 1, 0, filled, store, n, run, tape, WORDS, told, path);
-    expect("sill_message, 0 deep", n, (const uint64_t[SILL_READ_TOLD]){SILL_LIMIT}, SILL_READ_TOLD, 1);
+    expect("sill_message, 0 deep", n, (const uint64_t[SILL_TOLD]){SILL_LIMIT}, SILL_TOLD, 1);
 }
 
 /* What a message leaves: nothing, its name, its header in the run too, its tape too. */
@@ -171,8 +171,8 @@ static void message(const char *what, size_t len, size_t limit, size_t words, en
     if (NAMED <= left) memcpy(was_store + 6 * 256, "\1b", 2), was_filled[0] |= 1 << 6;
     if (NOTED <= left) memcpy(was_run, (const uint8_t[]){2, 6, 5}, 3);
     if (TAPED <= left) memcpy(was_tape, (const uint32_t[]){104, 9, 15, 0, 3, 82, 11, 13, 0, 1, 82, 13, 15, 0, 1}, 3 * SILL_CELL * sizeof *tape);
-    if (want[SILL_READ_SEGMENTS]) was_path[0] = SILL_IN_TUPLE, was_path[1] = element;
-    expect(call, len, want, SILL_READ_TOLD, 1);
+    if (want[SILL_SEGMENTS]) was_path[0] = SILL_IN_TUPLE, was_path[1] = element;
+    expect(call, len, want, SILL_TOLD, 1);
 }
 
 /* Messages that begin with these bytes and go on with 0, refused in each of the ways that a header has, and behind it. */
@@ -180,7 +180,7 @@ static const struct {
     const char *what;
     size_t len, limit, words;
     enum left left;
-    uint64_t want[SILL_READ_TOLD];
+    uint64_t want[SILL_TOLD];
     uint8_t front[20];
 } messages[] = {
     {"limit 65", 15, 65, WORDS, NOTHING, {SILL_LIMIT}, {MESSAGE}},
@@ -216,7 +216,7 @@ static void left_behind(void) {
     }
     /* over no name */
     paint();
-    message("an empty slot", 15, 64, WORDS, NOTED, (const uint64_t[SILL_READ_TOLD]){SILL_TAG, 0, 11, 0, 2, 2, 1}, 0);
+    message("an empty slot", 15, 64, WORDS, NOTED, (const uint64_t[SILL_TOLD]){SILL_TAG, 0, 11, 0, 2, 2, 1}, 0);
 }
 
 /* Writing. The texts are in `bytes`, all of it, but where they are said to be fewer. */
@@ -255,8 +255,8 @@ static void done(const char *what, size_t len, const uint8_t *front, size_t n, u
     write(what, len, SILL_DONE, len, 0);
     write(what, len + BEHIND, SILL_DONE, len, 0);
     row = 0;
-    sill_term(out, len, 1, SILL_NESTING, told, path);
-    if (memcmp(out, front, n) != 0 || told[SILL_READ_NUMBER] != SILL_DONE || told[SILL_READ_END] != len || told[SILL_READ_TERMS] != terms) {
+    sill_term(out, len, 1, SILL_DEEPEST, told, path);
+    if (memcmp(out, front, n) != 0 || told[SILL_NUMBER] != SILL_DONE || told[SILL_END] != len || told[SILL_BEGUN] != terms) {
         printf("%-24s %s: NOT AS EXPECTED\n", "bytes", what);
         failed = 1;
     }
@@ -376,15 +376,15 @@ int main(void) {
         bytes[0] = 131;
         binary(1, n);
         paint();
-        sill_read(bytes, n, SILL_NESTING, tape, WORDS, told, path);
-        expect("sill_read", n, TOLD(0, n, 0, 0, 1, 1, 0), SILL_READ_TOLD, !fits);
+        sill_read(bytes, n, SILL_DEEPEST, tape, WORDS, told, path);
+        expect("sill_read", n, TOLD(0, n, 0, 0, 1, 1, 0), SILL_TOLD, !fits);
         if (fits) {
             const uint32_t cell[SILL_CELL] = {109, 1, SILL_LONGEST, 0, 1};
             failed |= memcmp(tape, cell, sizeof cell) || memcmp(tape + SILL_CELL, was_tape + SILL_CELL, sizeof tape - sizeof cell);
         }
         paint();
-        sill_term(bytes, n, 1, SILL_NESTING, told, path);
-        expect("sill_term", n, TOLD(0, n, 0, 0, 1, 1, 0), SILL_READ_TOLD, 1);
+        sill_term(bytes, n, 1, SILL_DEEPEST, told, path);
+        expect("sill_term", n, TOLD(0, n, 0, 0, 1, 1, 0), SILL_TOLD, 1);
         paint();
         sill_head(bytes, n, 1, told);
         expect("sill_head", n, TOLD(0, 109, 0, 0, 6, n - 6), SILL_HEAD_TOLD, 1);
@@ -397,13 +397,13 @@ int main(void) {
         memcpy(bytes, (const uint8_t[]){131, 116, 0, 0, 0, 1, 119, 1, 'a'}, 9);
         binary(9, n);
         paint();
-        sill_find_name(bytes, n, 1, SILL_NESTING, (const uint8_t *)"a", 1, told, path);
-        expect("sill_find_name", n, TOLD(0, n, 9, 0, 3, 2, 0), SILL_READ_TOLD, 1);
+        sill_find_name(bytes, n, 1, SILL_DEEPEST, (const uint8_t *)"a", 1, told, path);
+        expect("sill_find_name", n, TOLD(0, n, 9, 0, 3, 2, 0), SILL_TOLD, 1);
         memcpy(bytes, (const uint8_t[]){131, 116, 0, 0, 0, 1, 97, 7}, 8);
         binary(8, n);
         paint();
-        sill_find_number(bytes, n, 1, SILL_NESTING, 7, told, path);
-        expect("sill_find_number", n, TOLD(0, n, 8, 0, 3, 2, 0), SILL_READ_TOLD, 1);
+        sill_find_number(bytes, n, 1, SILL_DEEPEST, 7, told, path);
+        expect("sill_find_number", n, TOLD(0, n, 8, 0, 3, 2, 0), SILL_TOLD, 1);
 
         /* a header with one new name, "a" in slot 5: what follows it is the rest */
         memcpy(bytes, (const uint8_t[]){131, 68, 1, 8, 5, 1, 'a'}, 7);
@@ -416,8 +416,8 @@ int main(void) {
         memcpy(bytes + 7, (const uint8_t[]){104, 2, 82, 0}, 4);
         binary(11, n);
         paint();
-        sill_message(bytes, n, SILL_NESTING, filled, store, SILL_STORE_BYTES, run, tape, WORDS, told, path);
-        expect("sill_message", n, TOLD(0, n, 0, 0, 3, 2, 0), SILL_READ_TOLD, !fits);
+        sill_message(bytes, n, SILL_DEEPEST, filled, store, SILL_STORE_BYTES, run, tape, WORDS, told, path);
+        expect("sill_message", n, TOLD(0, n, 0, 0, 3, 2, 0), SILL_TOLD, !fits);
         failed |= sill_count(filled) != (fits ? 1 : 0);
         if (fits) {
             const uint32_t cells[] = {104, 7, SILL_LONGEST, 0, 3, 82, 9, 11, 0, 1, 109, 11, SILL_LONGEST, 0, 1};
@@ -427,10 +427,10 @@ int main(void) {
         memcpy(bytes + n - 2, (const uint8_t[]){82, 0}, 2);
         lend();
         sill_atom(bytes, n, 9, filled, store, SILL_STORE_BYTES, run, told);
-        expect("sill_atom, first", n, TOLD(0, 5 * 256 + 1, 1), SILL_NAME_TOLD, 1);
+        expect("sill_atom, first", n, TOLD(0, 5 * 256 + 1, 1), SILL_GET_TOLD, 1);
         lend();
         sill_atom(bytes, n, n - 2, filled, store, SILL_STORE_BYTES, run, told);
-        expect("sill_atom, last", n, TOLD(0, 5 * 256 + 1, 1), SILL_NAME_TOLD, 1);
+        expect("sill_atom, last", n, TOLD(0, 5 * 256 + 1, 1), SILL_GET_TOLD, 1);
 
         /* fragments, of which the same is true */
         memcpy(bytes, (const uint8_t[]){131, 69, 0, 0, 0, 0, 0, 0, 0, 2, 0, 0, 0, 0, 0, 0, 0, 3, 4}, 19);

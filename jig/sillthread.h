@@ -2,9 +2,10 @@
 
 /* Sillthread for C: a reader and a writer of Erlang terms that keep nothing and take no memory of their own. The file NOTICE travels with the library.
  *
- * The library is target/staticlib/libjig.a, made by `rt staticlib jig`, for x86-64; `./firmware` makes it for Cortex-M3, Cortex-M4 and 32-bit RISC-V. It
+ * The library is target/staticlib/libjig.a, made by `jig/library`, for x86-64; `./firmware` makes it for Cortex-M3, Cortex-M4 and 32-bit RISC-V. It
  * calls nothing but memcpy and memset, on Arm by the names __aeabi_memcpy, __aeabi_memcpy8, __aeabi_memclr and __aeabi_memclr8. Each function is proved to
- * answer what its call beneath answers (crates/jig), for every input; none can fail to return, and none looks at or writes to anything but what it is lent.
+ * answer what its call beneath answers (crates/jig_c over crates/jig), for every input; none can fail to return, and none looks at or writes to anything
+ * but what it is lent.
  *
  * What the caller owes, and no proof can see:
  * - The same interface. Compare sill_interface() with SILL_INTERFACE before any other call: this page and the library may be of different days.
@@ -14,8 +15,8 @@
  * - What is lent to be written overlaps nothing else that is lent to the same call. What is only read may overlap.
  * - Nothing that is lent changes while the call runs, by a thread, an interrupt or a DMA: sill_read, sill_message, the lookups and sill_write go over what
  *   they are lent more than once, and judge it once.
- * - Stack. At limit 64 the deepest call needs 23,008 bytes on x86-64 and 28,316 on Cortex-M3, with 8 for our own __aeabi_memcpy; docs/MEMORY.md has each
- *   call at limits 1, 8 and 64, and what was seen on RISC-V.
+ * - Stack. At limit 64 the deepest call needs 23,008 bytes on x86-64 and 28,316 on Cortex-M3, with 8 for our own __aeabi_memcpy, as the older kit 5b
+ *   compiled it; docs/MEMORY.md has each call at limits 1, 8 and 64, and what was seen on RISC-V.
  * A call keeps nothing between two calls and has no data of its own: calls may interrupt each other and run side by side, each over what it is lent. No
  * argument is a float: which registers floats are passed in is the same to us, but linkers want it alike, and there is a library for each (cortex-m4f).
  *
@@ -25,6 +26,7 @@
 #define SILLTHREAD_H
 
 #include <limits.h>
+#include <stddef.h>
 #include <stdint.h>
 
 #if CHAR_BIT != 8
@@ -197,6 +199,24 @@ enum sill_size {
     SILL_FILLED = 4,                /* words that say which slots of a store are filled */
     SILL_STORE_BYTES = 65536,       /* 256 slots of 256 bytes */
     SILL_POSITIONS = 256            /* bytes that keep a header's references: how many, and the slot of each of up to 255 */
+};
+
+/* The names that these words had when this page first landed. They stay, so that a program written for that page compiles and means the same; jig/example.c
+ * and jig/long.c are such programs. SILL_DEEPEST is the largest nesting limit, and not the word SILL_READ_DEEPEST. */
+enum sill_told {
+    SILL_NUMBER = SILL_READ_NUMBER,
+    SILL_END = SILL_READ_END,
+    SILL_OFFSET = SILL_READ_OFFSET,
+    SILL_EXTRA = SILL_READ_EXTRA,
+    SILL_BEGUN = SILL_READ_TERMS,
+    SILL_DEEPENED = SILL_READ_DEEPEST,
+    SILL_SEGMENTS = SILL_READ_SEGMENTS,
+    SILL_TOLD = SILL_READ_TOLD
+};
+enum sill_first_names {
+    SILL_FIELD = SILL_HEAD_FIELD,
+    SILL_GET_TOLD = SILL_NAME_TOLD,
+    SILL_DEEPEST = SILL_NESTING
 };
 
 /* What the library takes for granted of C's types, or this page doesn't compile. */

@@ -1,4 +1,4 @@
-/* Two calls that answer otherwise than the library's, for tests/example: a head that is refused, and another interface. */
+/* Two calls that answer otherwise than the library's, for tests/board-example: a head that is refused, and another interface. */
 #include <string.h>
 
 #include "sillthread.h"

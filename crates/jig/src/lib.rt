@@ -1,7 +1,7 @@
 // The jig: the calls that a program in another language makes. Everything is lent, as runs of numbers, and every answer is told as numbers.
 //
 // It stands over all that reads and writes, and judges nothing itself. A call's promise is that of the call beneath it; specs/ says, in one definition
-// for each kind of answer, how the answer becomes numbers. jig/sillthread.h is the same page for a C program.
+// for each kind of answer, how the answer becomes numbers. jig/sillthread.h is the same page for a C program, which gets these calls by the crate jig_c.
 
 #![tactic(auto)]
 
@@ -31,8 +31,7 @@ use reading::{Answer, Segment};
 // The number of this interface: a C program compares it with that of its header, which may be of another day.
 const INTERFACE: u64 = 1;
 
-#[unsafe(no_mangle)]
-pub extern "C" fn sill_interface() -> u64
+pub fn sill_interface() -> u64
     ensures { result ≡ interface }
 {
     INTERFACE
@@ -40,8 +39,7 @@ pub extern "C" fn sill_interface() -> u64
 
 // Reads a record and writes its tape, as tape::read does. Told are number, end, offset, extra, terms begun, deepest nesting and the
 // segments in the path; of a refusal's path, two words for each segment.
-#[unsafe(no_mangle)]
-pub extern "C" fn sill_read(
+pub fn sill_read(
     b: &[u8],
     limit: usize,
     tape: &mut [u32],
@@ -55,14 +53,7 @@ pub extern "C" fn sill_read(
 }
 
 // Reads the term at a place, any place, as terms::read does. Told as by sill_read.
-#[unsafe(no_mangle)]
-pub extern "C" fn sill_term(
-    b: &[u8],
-    at: usize,
-    limit: usize,
-    told: &mut [u64; 7],
-    path: &mut [u64; 128],
-)
+pub fn sill_term(b: &[u8], at: usize, limit: usize, told: &mut [u64; 7], path: &mut [u64; 128])
     ensures { Tells (λ r. r ≡ read_at b.now at limit) told.new path.old path.new }
 {
     let a = terms::read(b, at, reading::plainly(limit));
@@ -70,8 +61,7 @@ pub extern "C" fn sill_term(
 }
 
 // Looks an atom up by its name in the map at a place, as lookup::find_name does. Told as by sill_read; the offset is the value's.
-#[unsafe(no_mangle)]
-pub extern "C" fn sill_find_name(
+pub fn sill_find_name(
     b: &[u8],
     at: usize,
     limit: usize,
@@ -86,8 +76,7 @@ pub extern "C" fn sill_find_name(
 }
 
 // The same of an integer, as lookup::find_number does.
-#[unsafe(no_mangle)]
-pub extern "C" fn sill_find_number(
+pub fn sill_find_number(
     b: &[u8],
     at: usize,
     limit: usize,
@@ -103,8 +92,7 @@ pub extern "C" fn sill_find_number(
 
 // What stands at a place without its children, as heads::head says. Told are number, tag, offset, extra, then the fields of the head's
 // value in their order, 0 where there are fewer than five: an integer by its two's complement, a double by its bits.
-#[unsafe(no_mangle)]
-pub extern "C" fn sill_head(b: &[u8], at: usize, told: &mut [u64; 9])
+pub fn sill_head(b: &[u8], at: usize, told: &mut [u64; 9])
     ensures { told.new ≡ head_words (head_of b.now at) }
 {
     let h = heads::head(b, at);
@@ -112,8 +100,7 @@ pub extern "C" fn sill_head(b: &[u8], at: usize, told: &mut [u64; 9])
 }
 
 // Where the bytes of an atom's name or of a binary stand and how many they are, as heads::part hands them out; 0 and 0 for any other head.
-#[unsafe(no_mangle)]
-pub extern "C" fn sill_part(b: &[u8], at: usize, told: &mut [u64; 2])
+pub fn sill_part(b: &[u8], at: usize, told: &mut [u64; 2])
     ensures { told.new ≡ part_words (run_at b.now at) }
 {
     let h = heads::head(b, at);
@@ -121,8 +108,7 @@ pub extern "C" fn sill_part(b: &[u8], at: usize, told: &mut [u64; 2])
 }
 
 // A cache with no name in it, as cache::empty says: its four words.
-#[unsafe(no_mangle)]
-pub extern "C" fn sill_empty(filled: &mut [u64; 4])
+pub fn sill_empty(filled: &mut [u64; 4])
     ensures { filled.new ≡ replicate 4 0 }
 {
     let c = cache::empty();
@@ -131,8 +117,7 @@ pub extern "C" fn sill_empty(filled: &mut [u64; 4])
 }
 
 // The count of names in a cache, as cache::count says.
-#[unsafe(no_mangle)]
-pub extern "C" fn sill_count(filled: &[u64; 4]) -> usize
+pub fn sill_count(filled: &[u64; 4]) -> usize
     ensures { result ≡ count_of filled.now }
 {
     let words = *filled;
@@ -140,8 +125,7 @@ pub extern "C" fn sill_count(filled: &[u64; 4]) -> usize
 }
 
 // The name in a slot, as cache::get says. Told are number, its place in the store and its length.
-#[unsafe(no_mangle)]
-pub extern "C" fn sill_get(filled: &[u64; 4], store: &[u8], slot: u8, told: &mut [u64; 3])
+pub fn sill_get(filled: &[u64; 4], store: &[u8], slot: u8, told: &mut [u64; 3])
     ensures { told.new ≡ name_words (got_at filled.now store.now slot) }
 {
     let words = *filled;
@@ -151,16 +135,10 @@ pub extern "C" fn sill_get(filled: &[u64; 4], store: &[u8], slot: u8, told: &mut
 
 // Reads an atom header, as header::read does. Told are number, where the rest begins, and extra; the names completed are in the
 // cache, refused or not.
-#[unsafe(no_mangle)]
-pub extern "C" fn sill_header(
-    b: &[u8],
-    filled: &mut [u64; 4],
-    store: &mut [u8],
-    told: &mut [u64; 3],
-)
-    ensures tells { told.new ≡ header_words (answer_of (header_over b.now (record { filled = filled.entry.now }) store.old)) }
-    ensures marks { filled.exit.now ≡ (header_over b.now (record { filled = filled.entry.now }) store.old).cache.cache.filled }
-    ensures stores { store.new ≡ (header_over b.now (record { filled = filled.entry.now }) store.old).cache.store }
+pub fn sill_header(b: &[u8], filled: &mut [u64; 4], store: &mut [u8], told: &mut [u64; 3])
+    ensures tells { told.new ≡ header_words (answer_of (header_over b.now (record { filled = filled.old }) store.old)) }
+    ensures marks { filled.new ≡ (header_over b.now (record { filled = filled.old }) store.old).cache.cache.filled }
+    ensures stores { store.new ≡ (header_over b.now (record { filled = filled.old }) store.old).cache.store }
 {
     let words = *filled;
     let h = header::read(b, Cache { filled: words }, store);
@@ -172,8 +150,7 @@ pub extern "C" fn sill_header(
 
 // Reads an atom header and one term behind it, and writes the term's tape, as message::read does. Told as by sill_read; the names completed are in
 // the cache, refused or not, and the positions of a header that was read to its end are in `run`.
-#[unsafe(no_mangle)]
-pub extern "C" fn sill_message(
+pub fn sill_message(
     b: &[u8],
     limit: usize,
     filled: &mut [u64; 4],
@@ -183,10 +160,10 @@ pub extern "C" fn sill_message(
     told: &mut [u64; 7],
     path: &mut [u64; 128],
 )
-    ensures tells { Tells (λ r. Promised (message_before slots b.now (message_over b.now limit (record { filled = filled.entry.now }) store.old)) b.now limit r tape.old tape.new) told.new path.old path.new }
-    ensures marks { filled.exit.now ≡ (message_over b.now limit (record { filled = filled.entry.now }) store.old).cache.cache.filled }
-    ensures stores { store.new ≡ (message_over b.now limit (record { filled = filled.entry.now }) store.old).cache.store }
-    ensures notes { run.new ≡ noted_by b.now (message_over b.now limit (record { filled = filled.entry.now }) store.old) run.old }
+    ensures tells { Tells (λ r. Promised (message_before slots b.now (message_over b.now limit (record { filled = filled.old }) store.old)) b.now limit r tape.old tape.new) told.new path.old path.new }
+    ensures marks { filled.new ≡ (message_over b.now limit (record { filled = filled.old }) store.old).cache.cache.filled }
+    ensures stores { store.new ≡ (message_over b.now limit (record { filled = filled.old }) store.old).cache.store }
+    ensures notes { run.new ≡ noted_by b.now (message_over b.now limit (record { filled = filled.old }) store.old) run.old }
 {
     let words = *filled;
     let m = message::read(b, limit, Cache { filled: words }, store, run, tape);
@@ -198,8 +175,7 @@ pub extern "C" fn sill_message(
 }
 
 // The name at a position of the last header that sill_message read to its end, as positions::get says. Told as by sill_get.
-#[unsafe(no_mangle)]
-pub extern "C" fn sill_position(
+pub fn sill_position(
     filled: &[u64; 4],
     store: &[u8],
     run: &[u8; 256],
@@ -214,8 +190,7 @@ pub extern "C" fn sill_position(
 }
 
 // The same for the atom of tag 82 at a place, as a cell of tag 82 has it, as positions::get_at says.
-#[unsafe(no_mangle)]
-pub extern "C" fn sill_atom(
+pub fn sill_atom(
     b: &[u8],
     at: usize,
     filled: &[u64; 4],
@@ -231,8 +206,7 @@ pub extern "C" fn sill_atom(
 }
 
 // Reads a first fragment's header, as fragments::first does. Told are number, where the rest begins, extra, sequence, fragment and count.
-#[unsafe(no_mangle)]
-pub extern "C" fn sill_first(b: &[u8], told: &mut [u64; 6])
+pub fn sill_first(b: &[u8], told: &mut [u64; 6])
     ensures { told.new ≡ first_words (first_at b.now) }
 {
     let f = fragments::first(b);
@@ -247,8 +221,7 @@ pub extern "C" fn sill_first(b: &[u8], told: &mut [u64; 6])
 }
 
 // The same of a later fragment, as fragments::next does; there is no count.
-#[unsafe(no_mangle)]
-pub extern "C" fn sill_next(b: &[u8], told: &mut [u64; 5])
+pub fn sill_next(b: &[u8], told: &mut [u64; 5])
     ensures { told.new ≡ next_words (next_at b.now) }
 {
     let f = fragments::next(b);
@@ -256,8 +229,7 @@ pub extern "C" fn sill_next(b: &[u8], told: &mut [u64; 5])
 }
 
 // Writes a row of items as a term, as writer::write does. Told are number, how many bytes were written, and extra.
-#[unsafe(no_mangle)]
-pub extern "C" fn sill_write(row: &[u64], texts: &[u8], out: &mut [u8], told: &mut [u64; 3])
+pub fn sill_write(row: &[u64], texts: &[u8], out: &mut [u8], told: &mut [u64; 3])
     ensures tells { told.new ≡ written_words (write_over (items_of texts.now row.now) out.old).answer }
     ensures writes { out.new ≡ (write_over (items_of texts.now row.now) out.old).bytes }
 {
@@ -266,8 +238,7 @@ pub extern "C" fn sill_write(row: &[u64], texts: &[u8], out: &mut [u8], told: &m
 }
 
 // How many leading bytes of a text form whole good characters, as utf8::good says.
-#[unsafe(no_mangle)]
-pub extern "C" fn sill_utf8(b: &[u8]) -> usize
+pub fn sill_utf8(b: &[u8]) -> usize
     ensures { result ≡ good_bytes b.now }
 {
     utf8::good(b)

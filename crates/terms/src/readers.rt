@@ -54,7 +54,7 @@ fn body(
     fault: &mut [u64; 67],
 ) -> usize
     requires { Enters b.now asked.now rem at seen.old fault.old }
-    ensures { Reads (λ read b. def.body (allowed_of asked.now) read b tag) b.entry.now asked.now rem at seen.old result seen.new fault.new }
+    ensures { Reads (λ read b. def.body (allowed_of asked.now) read b tag) b.now asked.now rem at seen.old result seen.new fault.new }
 {
     match tag {
         104 => small_tuple(b, asked, rem, at, seen, fault),
@@ -199,7 +199,7 @@ fn required(
     fault: &mut [u64; 67],
 ) -> usize
     requires { Enters b.now asked.now rem at seen.old fault.old }
-    ensures { Reads (λ read b. def.required read (fits needed b)) b.entry.now asked.now rem at seen.old result seen.new fault.new }
+    ensures { Reads (λ read b. def.required read (fits needed b)) b.now asked.now rem at seen.old result seen.new fault.new }
 {
     let e = term(b, asked, rem, at, seen, fault);
     if e == 0 {
@@ -223,7 +223,7 @@ fn named(
     fault: &mut [u64; 67],
 ) -> usize
     requires { Enters b.now asked.now rem at seen.old fault.old }
-    ensures { Reads (λ read b. named read b n) b.entry.now asked.now rem at seen.old result seen.new fault.new }
+    ensures { Reads (λ read b. named read b n) b.now asked.now rem at seen.old result seen.new fault.new }
 {
     let e = required(b, asked, rem, Needed::Atom, at, seen, fault);
     if e == 0 {
@@ -308,7 +308,7 @@ fn captured(
     fault: &mut [u64; 67],
 ) -> usize
     requires { Enters b.now asked.now rem at seen.old fault.old × (n < 4294967296) }
-    ensures { Reads (λ read b. def.captured read b n) b.entry.now asked.now rem at seen.old result seen.new fault.new }
+    ensures { Reads (λ read b. def.captured read b n) b.now asked.now rem at seen.old result seen.new fault.new }
 {
     let module = required(b, asked, rem, Needed::Atom, at, seen, fault);
     if module == 0 {
@@ -342,7 +342,7 @@ fn kids(
     fault: &mut [u64; 67],
 ) -> usize
     requires { Enters b.now asked.now rem from seen.old fault.old × (n ≤ most family) }
-    ensures { Reads (λ read b. kids_of read (segment_of family n) 0 n from) b.entry.now asked.now rem from seen.old result seen.new fault.new }
+    ensures { Reads (λ read b. kids_of read (segment_of family n) 0 n from) b.now asked.now rem from seen.old result seen.new fault.new }
 {
     let mut at = from;
     let mut prev = from;

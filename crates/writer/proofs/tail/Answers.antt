@@ -5,10 +5,10 @@ use Rattle.writer.proofs.Wrote.{stored}
 use Rattle.writer.proofs.tail.Goals as goal
 
 pub nil-requires : goal.nil-requires
-nil-requires c = omega (arith, c.requires.1, ap (λ (n : ℕ). length (tail_by n)) c.if-left-eq1.true)
+nil-requires c = let e : c.args.left ≡ 1 = omega arith in omega (arith, c.requires.1, ap (λ (n : ℕ). length (tail_by n)) e)
 
 pub returns-then-left-eq1 : goal.returns-then-left-eq1
-returns-then-left-eq1 c = rw c.if-left-eq1.true c.nil.ensures
+returns-then-left-eq1 c = let e : c.args.left ≡ 1 = omega arith in rw e c.nil.ensures
 
 pub returns : goal.returns
-returns c = let e : c.args.left ≡ 0 = omega (arith, c.requires.0, c.if-left-eq1.false) in rw e (stored _ _ _ [] (omega arith) (omega arith))
+returns c = let e : c.args.left ≡ 0 = omega arith in rw e (stored _ _ _ [] (omega arith) (omega arith))

@@ -4,15 +4,13 @@ use mathlib.Core.Path.{◌≡◌, ◌∙◌}
 use mathlib.Core.List.{List}
 use Prim.Native.Nat.{ℕ, suc, ◌+◌, ◌-◌, ◌*◌, ◌≤◌, ◌<◌}
 use native.Mathlib.Omega.{arith}
-use borrow.Author.Rules.{rules}
 use lib.ListN.{get_or, set}
 use lib.Seq.{sets}
 use Rattle.reading.specs.declared.Kind.TheVariants.{Tuple}
 use Rattle.reading.specs.declared.Segment.{Segment}
 use Rattle.reading.specs.Answer.{kind_number}
 use Rattle.jig.specs.Shown.{segments}
-use Rattle.jig.proofs.trace.Statement.{statement}
-use Rattle.jig.proofs.trace.Tie as tie
+use Rattle.jig.proofs.trace.Goals as goal
 
 abbrev none : Segment
 none = record { kind = Tuple; number = 0 }
@@ -30,39 +28,11 @@ no_more : (words : List ℕ) (path : List Segment) (n i : ℕ) → n ≤ i → w
 unfolding segments
 no_more words path n i h = let none_left : n - i ≡ 0 = omega arith in rw none_left
 
-abbrev invariant-loop : tie.invariant-loop
-invariant-loop n words₀ path i₀ words i = (i ≤ n) × (sets words (i * 2) (segments path (n - i) i) ≡ sets words₀ 0 (segments path n 0))
+pub loop-i-init : goal.loop-i-init
+loop-i-init c = (omega arith, let all : c.args.n - 0 ≡ c.args.n = omega arith in rw all)
 
-abbrev decreases-loop : tie.decreases-loop
-decreases-loop n words₀ path i₀ words i = n - i
+pub loop-i-preserved : goal.loop-i-preserved
+loop-i-preserved c = (omega arith, one_more _ _ c.args.n c.loop-i.i _ c.loop-i-test.true c.kind_number.ensures.0 ∙ c.loop-i.invariant.1)
 
-loop-holds : tie.Need-loop-init invariant-loop decreases-loop
-loop-holds c = (omega arith, let all : c.args.n - 0 ≡ c.args.n = omega arith in rw all)
-
-loop-again : tie.Need-loop-preserved invariant-loop decreases-loop
-loop-again c = (omega arith, one_more _ _ c.before.before.before.before.args.n c.before.before.before.loop.i _ c.before.before.loop-test.true c.kind-number.ensures.0 ∙ c.before.before.before.loop.invariant.1)
-
-returns : tie.Need-returns invariant-loop decreases-loop
-returns c = no_more _ _ c.before.before.args.n c.before.loop.i c.loop-test.false ∙ c.before.loop.invariant.1
-
-pub trace-spec : {M : Type 1} → statement M
-trace-spec =
-    tie.close
-    (tie.spec
-    invariant-loop
-    decreases-loop
-    loop-holds
-    (λ c. omega arith)
-    (λ c. omega arith)
-    (λ c κs. search rules)
-    (λ c. omega arith)
-    (λ c. omega arith)
-    (λ c. omega arith)
-    (λ c. omega arith)
-    (λ c. omega arith)
-    (λ c. omega arith)
-    (λ c. omega arith)
-    (λ c. omega arith)
-    (λ c. omega arith)
-    loop-again
-    returns)
+pub returns : goal.returns
+returns c = no_more _ _ c.args.n c.loop-i.i c.loop-i-test.false ∙ c.loop-i.invariant.1
