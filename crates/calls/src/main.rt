@@ -11,20 +11,32 @@ ghost use Rattle.std.specs.Prelude.{◌<◌};
 use asking::Over;
 use cache::Cache;
 use naming::Reached;
+use print::Out;
+use std::io::Stdin;
+use std::process::ExitCode;
 
-fn main() {
+fn main(rt: HostRuntime) -> ExitCode {
     let mut text = [0u8; 262144];
-    let mut store = io::large_buffer();
+    let mut store = [0u8; 65536];
     // the positions of the last message's header, which has no references first
     let mut noted = [0u8; 256];
     let mut run = space();
     // a row's numbers, of which a line has hardly room for more, and the bytes that are lent to the writer
     let mut row = [0u64; 65536];
     let mut lent = [0u8; 262144];
-    let mut out = io::large_buffer();
+    let mut room = [0u8; 65536];
+    let mut out = Out::new(&mut room, rt.stdout(), rt.stderr());
     serve(
-        &mut text, &mut store, &mut noted, &mut run, &mut row, &mut lent, &mut out,
+        rt.stdin(),
+        &mut text,
+        &mut store,
+        &mut noted,
+        &mut run,
+        &mut row,
+        &mut lent,
+        &mut out,
     );
+    print::status(&out)
 }
 
 // The words of a tape: five for each term that a request of 65,536 bytes can have.
@@ -35,13 +47,14 @@ fn space() -> [u32; 327680] {
 // Answers all of standard input. The names of headers live from line to line, and so do the positions of the last message's.
 // A proved loop has to end, and nothing says that the input does: it counts its turns down from a number that no run uses up.
 fn serve(
+    stdin: Stdin,
     text: &mut [u8],
     store: &mut [u8],
     noted: &mut [u8; 256],
     run: &mut [u32],
     row: &mut [u64],
     lent: &mut [u8],
-    out: &mut [u8],
+    out: &mut Out<'_>,
 ) {
     let mut names = cache::empty();
     let mut from = 0;
@@ -69,7 +82,7 @@ fn serve(
             turns -= 1;
             continue;
         }
-        end = lines::more(text, from, end, out, at);
+        end = lines::more(stdin, text, from, end, out, at);
         turns = left(turns, end);
         from = 0;
         at = 0;
@@ -96,7 +109,7 @@ fn answer(
     run: &mut [u32],
     row: &mut [u64],
     lent: &mut [u8],
-    out: &mut [u8],
+    out: &mut Out<'_>,
     at: usize,
 ) -> Reached {
     let over = asking::which(line);
