@@ -7,6 +7,7 @@
 use asking::Asked;
 use cache::Cache;
 use naming::Reached;
+use print::Out;
 
 // The answer to `message`; to any other it is `unknown`.
 pub fn answer(
@@ -15,7 +16,7 @@ pub fn answer(
     store: &mut [u8],
     noted: &mut [u8; 256],
     run: &mut [u32],
-    out: &mut [u8],
+    out: &mut Out<'_>,
     at: usize,
 ) -> Reached {
     let l = asking::of(line);
@@ -46,7 +47,7 @@ fn message(
     store: &mut [u8],
     noted: &mut [u8; 256],
     run: &mut [u32],
-    out: &mut [u8],
+    out: &mut Out<'_>,
     at: usize,
 ) -> Reached {
     if run.len() < words {
@@ -62,7 +63,7 @@ fn filled(
     store: &mut [u8],
     noted: &mut [u8; 256],
     run: &mut [u32],
-    out: &mut [u8],
+    out: &mut Out<'_>,
     at: usize,
 ) -> Reached {
     taping::blank(run);
