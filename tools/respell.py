@@ -1,6 +1,6 @@
 #!/usr/bin/env python3
 # tools/respell.py: brings the repository's own definitions and lemmas to the spelling of today's Rattle, once, behind its port.py: words in snake
-# case, and a dash only between two names. It goes over crates/*/{src,specs,proofs}. Where a lemma would have its function's name it gets _lem, and is told.
+# case, and a dash only between two names of a lemma. It goes over crates/*/{src,specs,proofs}. Where a lemma would have its function's name it gets _lem, and is told.
 import glob
 import os
 import re
@@ -29,6 +29,7 @@ for path in glob.glob(f"{KIT}/rattle/std/specs/*.antt") + glob.glob(f"{KIT}/ratt
     for names in re.findall(r"^pub use [^{\n]*\{([^}]*)\}", read(path), re.M):
         known |= set(re.split(r"[,\s]+", names))
 declared = {}
+stated = set()
 for path in texts():
     if not path.endswith(".antt"):
         continue
@@ -39,6 +40,7 @@ for path in texts():
                 declared.setdefault(name, set()).add("made" if MADE.search(path) else "own")
                 if "/specs/" in path:
                     known.add(name)
+                    stated.add(name)
 known |= set("append length take drop reverse map set zero suc plus minus times pow div mod eqb ltb leb cond elim".split())
 
 
@@ -52,6 +54,8 @@ known |= {snake(w) for w in known if w and w[0].islower()}
 def spelled(name):
     if not name or not (name[0].islower() or name[0] == "_") or not re.fullmatch(r"[A-Za-z0-9_'-]+", name):
         return name
+    if name in stated:
+        return snake(name.replace("-", "_"))
     parts = [snake(p) if p[:1].islower() else p for p in name.split("-")]
     out = parts[0]
     for before, part in zip(parts, parts[1:]):
@@ -73,7 +77,7 @@ for new, names in sorted(taken.items()):
         print("fall together:", new, "from", *names)
         # the lemma that would have its function's name gets _lem
         for name in names:
-            if "-" in name:
+            if "-" in name and name not in stated:
                 turned[name] = new + "_lem"
 # names that a proof file gives to goals are Rattle's own
 for name, where in declared.items():
@@ -82,7 +86,8 @@ for name, where in declared.items():
 changed = 0
 for path in texts():
     old = read(path)
-    new = TOKEN.sub(lambda m: turned.get(m.group(0), m.group(0)), old)
+    # in rows a lemma has the name of the definition that it is about
+    new = TOKEN.sub(lambda m: m.group(0) if m.group(0) == "number-text" and "/crates/rows/" in path else turned.get(m.group(0), m.group(0)), old)
     if path.endswith(".rt"):
         # only names of antt: those in imports, contracts and comments; the code has none with a capital or a dash inside
         new = "\n".join(n if not re.match(r"\s*(let|if|match|fn|pub fn) ", o) else o for o, n in zip(old.split("\n"), new.split("\n")))

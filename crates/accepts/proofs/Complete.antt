@@ -206,7 +206,7 @@ module _ (b : List ℕ) (around : ℕ) where
 
     a_natural : {allow : Allowed} {x : Tree} {most : ℕ} → Child read x → IsNatural most x → Laid allow x → Child (required read (is_natural most b)) x
     unfolding is_natural
-    a_natural {most = most} c (lay.natural_97 {l = l} k) (lay.row (lay.small-integer e)) =
+    a_natural {most = most} c (lay.natural_97 {l = l} k) (lay.row (lay.small_integer e)) =
         needed (is_natural most b) c (λ p h. rw (first (leaf 97 l) p h, field 97 1 p l e h, le-leb (be l) most k))
     a_natural {most = most} c (lay.natural_98 {l = l} k) (lay.row (lay.integer e)) =
         needed (is_natural most b) c (λ p h. rw (first (leaf 98 l) p h, field 98 4 p l e h, le-leb (be l) most k))
@@ -217,18 +217,18 @@ module _ (b : List ℕ) (around : ℕ) where
     -- a tag of a row without children is none of the others
     plain : {allow : Allowed} {tag : ℕ} {l : List ℕ} → Leaf allow tag l → (s : State) → body allow read b tag s ≡ fields (rows.leaf_at allow b tag s.at) s
     unfolding body
-    plain (lay.small-integer _) s = refl
+    plain (lay.small_integer _) s = refl
     plain (lay.integer _) s = refl
-    plain (lay.number-text _ _ _) s = refl
+    plain (lay.number_text _ _ _) s = refl
     plain (lay.double _) s = refl
     plain (lay.old_atom _ _ _ _) s = refl
     plain (lay.atom _ _ _ _) s = refl
-    plain (lay.small-atom _ _ _ _) s = refl
+    plain (lay.small_atom _ _ _ _) s = refl
     plain lay.nil s = refl
     plain (lay.string _ _ _) s = refl
     plain (lay.binary _ _ _ _) s = refl
-    plain (lay.bit-string _ _ _ _ _ _) s = refl
-    plain (lay.small-big _ _ _ _) s = refl
+    plain (lay.bit_string _ _ _ _ _ _) s = refl
+    plain (lay.small_big _ _ _ _) s = refl
     plain (lay.large_big _ _ _ _) s = refl
     plain (lay.position _ _) s = refl
 
@@ -242,8 +242,8 @@ module _ (b : List ℕ) (around : ℕ) where
       rest : {tag : ℕ} {front : List ℕ} {kids : Forest} {back : List ℕ} → Laid allow (node tag front kids back) → depths kids ≤ d → Parts (body allow read b tag) front kids back
       unfolding depths body terms.small_tuple terms.large_tuple terms.list terms.map terms.pid terms.reference terms.export terms.function terms.captured
       rest (lay.row w) h = same (plain w) (rowed w)
-      rest (lay.small-tuple n ts) h = counting _ n (elements (each ts h) kind.Tuple 0)
-      rest (lay.large_tuple_lem n c ts) h = capping _ n c (elements (each ts h) kind.Tuple 0)
+      rest (lay.small_tuple n ts) h = counting _ n (elements (each ts h) kind.Tuple 0)
+      rest (lay.large_tuple n c ts) h = capping _ n c (elements (each ts h) kind.Tuple 0)
       rest (lay.list n c e ts) h = capping _ n c (tailed (each ts h) 0 _ e)
       rest (lay.map n c e ts) h = capping _ n c (paired (each ts h) _ e)
       rest (lay.pid x i e) h = next (an_atom (reads _ x (omega arith)) i) (λ s. behind_child e)

@@ -246,7 +246,7 @@ binary _ (counted n l m w q) = layout.binary l m (rw q.1 w) (rw q.1 q.0)
 bits : {allow : Allowed} (l : List ℕ) → Counted 4 Bits l → Leaf allow 77 l
 bits _ (counted n l _ w (i, counted k c m v x)) =
     let e : c ≡ k ∷ [] = rw v.is at (single c v.wide) in
-    rw e (layout.bit-string l k m (rw x.1 w) (rw x.1 i) (rw x.1 x.0))
+    rw e (layout.bit_string l k m (rw x.1 w) (rw x.1 i) (rw x.1 x.0))
 
 position : {allow : Allowed} → allow.names ≡ true → (l : List ℕ) → Counted 1 (Known allow) l → Leaf allow 82 l
 position y _ (counted k c [] v x) = let e : c ≡ k ∷ [] = rw v.is at (single c v.wide) in rw e (layout.position y x.0)
@@ -273,37 +273,37 @@ unfolding rows.leaf_at rows.position_at rows.row_at
 leaf-sound allow b tag p e i =
     picked (eqb tag 82) (λ x. picked allow.names (λ y h. hit tag 82 x ((position_reads b allow p).sound h) (position y)) refused)
     (split (eqb tag 99)
-    (λ x. picked allow.texts (λ t h. hit tag 99 x ((text_reads b p).sound h) (λ l y. layout.number-text t y.0.0 ((text-is l).1 (y.0.1, y.1)))) refused)
+    (λ x. picked allow.texts (λ t h. hit tag 99 x ((text_reads b p).sound h) (λ l y. layout.number_text t y.0.0 ((text-is l).1 (y.0.1, y.1)))) refused)
     (λ other.
-    picked (eqb tag 97) (λ x h. hit tag 97 x ((bytes_reads b 1 p).sound h) (λ l. layout.small-integer))
+    picked (eqb tag 97) (λ x h. hit tag 97 x ((bytes_reads b 1 p).sound h) (λ l. layout.small_integer))
     (picked (eqb tag 98) (λ x h. hit tag 98 x ((bytes_reads b 4 p).sound h) (λ l. layout.integer))
     (picked (eqb tag 99) (λ x h. absurd (eqb-false tag 99 other (eqb-true tag 99 x)))
     (picked (eqb tag 70) (λ x h. hit tag 70 x ((bytes_reads b 8 p).sound h) (λ l. layout.double))
     (or_picked (eqb tag 100) (eqb tag 118)
     (λ x h. hit tag 100 x ((names_read b 2 p).sound h) (named layout.old_atom))
     (λ x h. hit tag 118 x ((names_read b 2 p).sound h) (named layout.atom))
-    (picked (eqb tag 119) (λ x h. hit tag 119 x ((names_read b 1 p).sound h) (named layout.small-atom))
+    (picked (eqb tag 119) (λ x h. hit tag 119 x ((names_read b 1 p).sound h) (named layout.small_atom))
     (picked (eqb tag 106) (λ x h. hit tag 106 x (nothing b i h) (λ l y. rw y layout.nil))
     (picked (eqb tag 107) (λ x h. hit tag 107 x ((string_reads b p).sound h) string)
     (picked (eqb tag 109) (λ x h. hit tag 109 x ((binary_reads b p).sound h) binary)
     (picked (eqb tag 77) (λ x h. hit tag 77 x ((bits_read b p).sound h) bits)
-    (picked (eqb tag 110) (λ x h. hit tag 110 x ((big_reads b 1 p).sound h) (big layout.small-big))
+    (picked (eqb tag 110) (λ x h. hit tag 110 x ((big_reads b 1 p).sound h) (big layout.small_big))
     (picked (eqb tag 111) (λ x h. hit tag 111 x ((big_reads b 4 p).sound h) (big layout.large_big))
     refused)))))))))))))
 
 pub leaf_complete : (allow : Allowed) (b : List ℕ) (p : ℕ) {tag : ℕ} {l : List ℕ} → Leaf allow tag l → Stands b p l → rows.leaf_at allow b tag p ≡ To (p + length l)
 unfolding rows.leaf_at rows.position_at rows.row_at
-leaf_complete allow b p (layout.small-integer w) s = (bytes_reads b 1 p).complete w s
+leaf_complete allow b p (layout.small_integer w) s = (bytes_reads b 1 p).complete w s
 leaf_complete allow b p (layout.integer w) s = (bytes_reads b 4 p).complete w s
-leaf_complete allow b p {l = l} (layout.number-text y w t) s = let x = (text-is l).0 t in rw y ((text_reads b p).complete ((w, x.0), x.1) s)
+leaf_complete allow b p {l = l} (layout.number_text y w t) s = let x = (text-is l).0 t in rw y ((text_reads b p).complete ((w, x.0), x.1) s)
 leaf_complete allow b p (layout.double w) s = (bytes_reads b 8 p).complete w s
 leaf_complete allow b p (layout.old_atom n m w u) s = (names_read b 2 p).complete (counted _ n m w (refl, u)) s
 leaf_complete allow b p (layout.atom n m w u) s = (names_read b 2 p).complete (counted _ n m w (refl, u)) s
-leaf_complete allow b p (layout.small-atom n m w u) s = (names_read b 1 p).complete (counted _ n m w (refl, u)) s
+leaf_complete allow b p (layout.small_atom n m w u) s = (names_read b 1 p).complete (counted _ n m w (refl, u)) s
 leaf_complete allow b p layout.nil s = ap To (omega arith)
 leaf_complete allow b p (layout.string n m w) s = (string_reads b p).complete (counted _ n m w refl) s
 leaf_complete allow b p (layout.binary n m w c) s = (binary_reads b p).complete (counted _ n m w (c, refl)) s
-leaf_complete allow b p (layout.bit-string n k m w c u) s = (bits_read b p).complete (counted _ n (k ∷ m) w (c, counted k (k ∷ []) m (one k) (u, refl))) s
-leaf_complete allow b p (layout.small-big n x m w) s = (big_reads b 1 p).complete (counted _ n (x ∷ m) w (joined (x ∷ []) m refl refl)) s
+leaf_complete allow b p (layout.bit_string n k m w c u) s = (bits_read b p).complete (counted _ n (k ∷ m) w (c, counted k (k ∷ []) m (one k) (u, refl))) s
+leaf_complete allow b p (layout.small_big n x m w) s = (big_reads b 1 p).complete (counted _ n (x ∷ m) w (joined (x ∷ []) m refl refl)) s
 leaf_complete allow b p (layout.large_big n x m w) s = (big_reads b 4 p).complete (counted _ n (x ∷ m) w (joined (x ∷ []) m refl refl)) s
 leaf_complete allow b p (layout.position {k = k} y h) s = rw y ((position_reads b allow p).complete (counted k (k ∷ []) [] (one k) (h, refl)) s)

@@ -166,7 +166,7 @@ module _ (b : List ℕ) where
         leb-true (be l) most (rw i at h)
 
     one : {allow : Allowed} {l m : List ℕ} {ts : Forest} → Laid allow (node 97 l ts m) → Stands b p (l ++ (bytes_all ts ++ m)) → leb (number_at 1 b p) most ≡ true → IsNatural most (node 97 l ts m)
-    one (lay.row (lay.small-integer e)) s h = lay.natural_97 (low _ _ s e h)
+    one (lay.row (lay.small_integer e)) s h = lay.natural_97 (low _ _ s e h)
 
     four : {allow : Allowed} {l m : List ℕ} {ts : Forest} → Laid allow (node 98 l ts m) → Stands b p (l ++ (bytes_all ts ++ m)) → leb (number_at 4 b p) most ≡ true → IsNatural most (node 98 l ts m)
     four (lay.row (lay.integer e)) s h = lay.natural_98 (low _ _ s e h)
@@ -283,14 +283,14 @@ module _ (b : List ℕ) where
       of_small e =
           counts 1 _ u (λ n c d.
           let k = of_elems kind.Tuple 0 n (nobody t r) d in
-          made e c.gone k (stays t r) (lay.small-tuple (record { wide = c.is.wide; is = omega (arith, c.is.is, k.many) }) k.laid))
+          made e c.gone k (stays t r) (lay.small_tuple (record { wide = c.is.wide; is = omega (arith, c.is.is, k.many) }) k.laid))
 
       of_large : get_or b s.at 0 ≡ 105 → large_tuple read b u ≡ done t → Lies allow b (suc rem) s t
       unfolding large_tuple
       of_large e =
           caps cap.elements _ u (λ n c h d.
           let k = of_elems kind.Tuple 0 n (nobody t r) d in
-          made e c.gone k (stays t r) (lay.large_tuple_lem (record { wide = c.is.wide; is = omega (arith, c.is.is, k.many) }) (omega (arith, k.many)) k.laid))
+          made e c.gone k (stays t r) (lay.large_tuple (record { wide = c.is.wide; is = omega (arith, c.is.is, k.many) }) (omega (arith, k.many)) k.laid))
 
       of_list : get_or b s.at 0 ≡ 108 → list read b u ≡ done t → Lies allow b (suc rem) s t
       unfolding list

@@ -42,8 +42,8 @@ module _ (b : List ℕ) (at begun deepest limit left : ℕ) (here : at < length 
   by_tag_lem : (tag : ℕ) → Tagged tag
   unfolding body head.term has_atom
   by_tag_lem tag =
-      arm Tagged tag 104 (row.small-tuple b at begun deepest limit (suc left) here)
-      (arm Tagged tag 105 (row.large_tuple_lem b at begun deepest limit (suc left) here)
+      arm Tagged tag 104 (row.small_tuple b at begun deepest limit (suc left) here)
+      (arm Tagged tag 105 (row.large_tuple b at begun deepest limit (suc left) here)
       (arm Tagged tag 108 (row.list b at begun deepest limit (suc left) here)
       (arm Tagged tag 116 (row.map b at begun deepest limit (suc left) here)
       (arm Tagged tag 88 (atom.pid b at begun deepest limit left)

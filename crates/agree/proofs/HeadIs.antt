@@ -126,17 +126,17 @@ module _ (b : List ℕ) (at : ℕ) where
   abbrev Tagged : ℕ → Type 0
   Tagged tag = Fields (fields_at b tag at) (head.term b tag at)
 
-  small-integer : Tagged 97
+  small_integer : Tagged 97
   unfolding head.term head.fixed fields_at
-  small-integer = leaf b 97 at refl
+  small_integer = leaf b 97 at refl
 
   integer : Tagged 98
   unfolding head.term head.fixed fields_at
   integer = leaf b 98 at refl
 
-  number-text : Tagged 99
+  number_text : Tagged 99
   unfolding head.term head.fixed head.number_text fields_at
-  number-text = leaf b 99 at refl
+  number_text = leaf b 99 at refl
 
   double : Tagged 70
   unfolding head.term head.fixed head.double fields_at
@@ -150,9 +150,9 @@ module _ (b : List ℕ) (at : ℕ) where
   unfolding head.term head.fixed name_place name_length length_bytes fields_at
   atom = leaf b 118 at refl
 
-  small-atom : Tagged 119
+  small_atom : Tagged 119
   unfolding head.term head.fixed name_place name_length length_bytes fields_at
-  small-atom = leaf b 119 at refl
+  small_atom = leaf b 119 at refl
 
   nil : Tagged 106
   unfolding head.term head.fixed fields_at
@@ -166,25 +166,25 @@ module _ (b : List ℕ) (at : ℕ) where
   unfolding head.term head.fixed fields_at
   binary = leaf b 109 at refl
 
-  bit-string : Tagged 77
+  bit_string : Tagged 77
   unfolding head.term head.fixed fields_at
-  bit-string = leaf b 77 at refl
+  bit_string = leaf b 77 at refl
 
-  small-big : Tagged 110
+  small_big : Tagged 110
   unfolding head.term head.fixed head.big fields_at
-  small-big = let e : at + 1 + 1 + 1 ≡ at + 1 + 2 = omega arith in leaf b 110 at (rw e)
+  small_big = let e : at + 1 + 1 + 1 ≡ at + 1 + 2 = omega arith in leaf b 110 at (rw e)
 
   large_big : Tagged 111
   unfolding head.term head.fixed head.big fields_at
   large_big = let e : at + 1 + 4 + 1 ≡ at + 1 + 5 = omega arith in leaf b 111 at (rw e)
 
-  small-tuple : Tagged 104
+  small_tuple : Tagged 104
   unfolding head.term head.small_tuple fields_at
-  small-tuple = sized b 1 at (at + 1) _ (is refl refl)
+  small_tuple = sized b 1 at (at + 1) _ (is refl refl)
 
-  large_tuple_lem : Tagged 105
+  large_tuple : Tagged 105
   unfolding head.term head.large_tuple fields_at
-  large_tuple_lem = counted b cap.elements at (at + 1) _ (is refl refl)
+  large_tuple = counted b cap.elements at (at + 1) _ (is refl refl)
 
   list : Tagged 108
   unfolding head.term head.list fields_at
@@ -230,21 +230,21 @@ module _ (b : List ℕ) (at : ℕ) where
   by_tag_lem : (tag : ℕ) → Tagged tag
   unfolding head.term layout.row_at
   by_tag_lem tag =
-      arm Tagged tag 97 small-integer
+      arm Tagged tag 97 small_integer
       (arm Tagged tag 98 integer
-      (arm Tagged tag 99 number-text
+      (arm Tagged tag 99 number_text
       (arm Tagged tag 70 double
       (arm Tagged tag 100 old_atom
       (arm Tagged tag 118 atom
-      (arm Tagged tag 119 small-atom
-      (arm Tagged tag 104 small-tuple
-      (arm Tagged tag 105 large_tuple_lem
+      (arm Tagged tag 119 small_atom
+      (arm Tagged tag 104 small_tuple
+      (arm Tagged tag 105 large_tuple
       (arm Tagged tag 106 nil
       (arm Tagged tag 107 string
       (arm Tagged tag 108 list
       (arm Tagged tag 109 binary
-      (arm Tagged tag 77 bit-string
-      (arm Tagged tag 110 small-big
+      (arm Tagged tag 77 bit_string
+      (arm Tagged tag 110 small_big
       (arm Tagged tag 111 large_big
       (arm Tagged tag 116 map
       (arm Tagged tag 88 pid

@@ -58,36 +58,36 @@ module _ (b : List ℕ) (p : ℕ) where
   -- the rows without children
   fixed-is : {tag : ℕ} {l : List ℕ} → Leaf plain tag l → Stands b p l → head.fixed b tag p ≡ fields_by tag l none [] p
   unfolding head.fixed head.number_text head.double head.big fields_by big_of
-  fixed-is (layout.small-integer w) s = rw (number_in b p s 1 0 p (omega arith) (omega arith))
+  fixed-is (layout.small_integer w) s = rw (number_in b p s 1 0 p (omega arith) (omega arith))
   fixed-is (layout.integer w) s = rw (number_in b p s 4 0 p (omega arith) (omega arith))
-  fixed-is (layout.number-text y w t) s = rw (ap (λ (k : ℕ). take k (drop p b)) (sym w) ∙ s.same)
+  fixed-is (layout.number_text y w t) s = rw (ap (λ (k : ℕ). take k (drop p b)) (sym w) ∙ s.same)
   fixed-is (layout.double w) s = rw (number_in b p s 8 0 p (omega arith) (omega arith))
   fixed-is (layout.old_atom n name w u) s = rw (length_in 0 n name w (omega arith) s)
   fixed-is (layout.atom n name w u) s = rw (length_in 0 n name w (omega arith) s)
-  fixed-is (layout.small-atom n name w u) s = rw (length_in 0 n name w (omega arith) s)
+  fixed-is (layout.small_atom n name w u) s = rw (length_in 0 n name w (omega arith) s)
   fixed-is layout.nil s = refl
   fixed-is (layout.string n r w) s = rw (length_in 0 n r w (omega arith) s)
   fixed-is (layout.binary n r w c) s = rw (length_in 0 n r w (omega arith) s)
-  fixed-is (layout.bit-string n k r w c t) s = rw (length_in 1 n (k ∷ r) w (omega arith) s, number_in b p s 1 4 (p + 4) refl (simp length-append (omega (arith, w.wide))))
-  fixed-is (layout.small-big n x r w) s = rw (length_in 1 n (x ∷ r) w (omega arith) s, number_in b p s 1 1 (p + 1) refl (simp length-append (omega (arith, w.wide))))
+  fixed-is (layout.bit_string n k r w c t) s = rw (length_in 1 n (k ∷ r) w (omega arith) s, number_in b p s 1 4 (p + 4) refl (simp length-append (omega (arith, w.wide))))
+  fixed-is (layout.small_big n x r w) s = rw (length_in 1 n (x ∷ r) w (omega arith) s, number_in b p s 1 1 (p + 1) refl (simp length-append (omega (arith, w.wide))))
   fixed-is (layout.large_big n x r w) s = rw (length_in 1 n (x ∷ r) w (omega arith) s, number_in b p s 1 4 (p + 4) refl (simp length-append (omega (arith, w.wide))))
   fixed-is (layout.position y h) s = absurd (let z : ◌≡◌ {A = ℕ} 0 1 = cc in omega arith)
 
 -- their tags are no others'
 leaf-term : {tag : ℕ} {l : List ℕ} (b : List ℕ) (at : ℕ) → Leaf plain tag l → head.term b tag at ≡ head.row_value b tag at
 unfolding head.term
-leaf-term b at (layout.small-integer w) = refl
+leaf-term b at (layout.small_integer w) = refl
 leaf-term b at (layout.integer w) = refl
-leaf-term b at (layout.number-text y w t) = refl
+leaf-term b at (layout.number_text y w t) = refl
 leaf-term b at (layout.double w) = refl
 leaf-term b at (layout.old_atom n name w u) = refl
 leaf-term b at (layout.atom n name w u) = refl
-leaf-term b at (layout.small-atom n name w u) = refl
+leaf-term b at (layout.small_atom n name w u) = refl
 leaf-term b at layout.nil = refl
 leaf-term b at (layout.string n r w) = refl
 leaf-term b at (layout.binary n r w c) = refl
-leaf-term b at (layout.bit-string n k r w c t) = refl
-leaf-term b at (layout.small-big n x r w) = refl
+leaf-term b at (layout.bit_string n k r w c t) = refl
+leaf-term b at (layout.small_big n x r w) = refl
 leaf-term b at (layout.large_big n x r w) = refl
 leaf-term b at (layout.position y h) = refl
 
@@ -135,8 +135,8 @@ module _ (b : List ℕ) where
         is = node-is b c true (omega (arith, s.inside)) (is-atom c i e) ∙ rw e (leaf-to b tag c r) ∙ f;
         ends = omega (arith, n.ends, length-append l []);
       }
-  atom c (layout.small-tuple _ _) i s = elim i [ ]
-  atom c (layout.large_tuple_lem _ _ _) i s = elim i [ ]
+  atom c (layout.small_tuple _ _) i s = elim i [ ]
+  atom c (layout.large_tuple _ _ _) i s = elim i [ ]
   atom c (layout.list _ _ _ _) i s = elim i [ ]
   atom c (layout.map _ _ _ _) i s = elim i [ ]
   atom c (layout.pid _ _ _) i s = elim i [ ]
@@ -187,8 +187,8 @@ module _ (b : List ℕ) (at : ℕ) where
       head.term b tag at ≡ fields_by tag front kids back (at + 1)
   unfolding head.term head.small_tuple head.large_tuple head.list head.map head.pid head.reference head.port head.function fields_by atom_of count
   row_is (layout.row {l = l} q) s = leaf-term b at q ∙ leaf-is b at q (left b (at + 1) l _ s)
-  row_is (layout.small-tuple {n = n} w a) s = sized _ w (left b (at + 1) n _ s)
-  row_is (layout.large_tuple_lem {n = n} w c a) s = counted cap.elements _ w c (left b (at + 1) n _ s)
+  row_is (layout.small_tuple {n = n} w a) s = sized _ w (left b (at + 1) n _ s)
+  row_is (layout.large_tuple {n = n} w c a) s = counted cap.elements _ w c (left b (at + 1) n _ s)
   row_is (layout.list {n = n} {m = m} {ts = ts} w c e a) s =
       let d : count ts - 1 ≡ m = omega arith in
       counted cap.elements _ w c (left b (at + 1) n _ s) ∙ rw d

@@ -60,15 +60,15 @@ module _ (b : List ℕ) (at begun deepest : ℕ) where
     abbrev read : State → Result
     read = term plain b limit left
 
-    pub small-tuple : Agrees b at 104 (reading.small_tuple read b s) (head.small_tuple b at)
+    pub small_tuple : Agrees b at 104 (reading.small_tuple read b s) (head.small_tuple b at)
     unfolding reading.small_tuple head.small_tuple has_atom
-    small-tuple =
+    small_tuple =
         let plain : Plain 104 = record { none = refl } in
         sized begun deepest 1 _ _ (λ e. not-at_once b at plain) (λ n e. valued b at plain _ refl (elems-kept b (at + 1) limit left kind.Tuple 0 n _ (above 1 (is_whole 1 b (at + 1) e).0)))
 
-    pub large_tuple_lem : Agrees b at 105 (reading.large_tuple read b s) (head.large_tuple b at)
+    pub large_tuple : Agrees b at 105 (reading.large_tuple read b s) (head.large_tuple b at)
     unfolding reading.large_tuple head.large_tuple has_atom
-    large_tuple_lem = counted cap.elements _ _ (record { none = refl }) (λ n. refl) (elems-kept b (at + 1) limit left kind.Tuple 0)
+    large_tuple = counted cap.elements _ _ (record { none = refl }) (λ n. refl) (elems-kept b (at + 1) limit left kind.Tuple 0)
 
     pub list : Agrees b at 108 (reading.list read b s) (head.list b at)
     unfolding reading.list head.list has_atom

@@ -46,9 +46,9 @@ module _ (b : List ℕ) (at : ℕ) (few : length b ≤ cap.input) where
   pub small-big_of_head : {front back : List ℕ} {kids : Forest} → Laid plain (node 110 front kids back) → Stands b at (bytes (node 110 front kids back)) → (place size sign : ℕ) ×
       ((head_of b at ≡ record { tag = 110; value = value.Big place size sign (not (eqb sign 0)) }) × (big_integer (node 110 front kids back) ≡ by_sign sign (le (take size (drop place b)))))
   unfolding bytes bytes_all fields_of fields_by big_of
-  small-big_of_head (layout.row (layout.small-big n x r w)) s =
+  small-big_of_head (layout.row (layout.small_big n x r w)) s =
       let f = n ++ (x ∷ r) in
-      (at + 1 + 1 + 1, length (drop 2 f), be_at 1 f 1, (head _ (layout.row (layout.small-big n x r w)) s, small-big-is n x r w ∙ big b (at + 1) n x r w (left b (at + 1) f [] (behind b at 110 (f ++ []) s))))
+      (at + 1 + 1 + 1, length (drop 2 f), be_at 1 f 1, (head _ (layout.row (layout.small_big n x r w)) s, small-big-is n x r w ∙ big b (at + 1) n x r w (left b (at + 1) f [] (behind b at 110 (f ++ []) s))))
 
   pub large_big_of_head : {front back : List ℕ} {kids : Forest} → Laid plain (node 111 front kids back) → Stands b at (bytes (node 111 front kids back)) → (place size sign : ℕ) ×
       ((head_of b at ≡ record { tag = 111; value = value.Big place size sign (not (eqb sign 0)) }) × (big_integer (node 111 front kids back) ≡ by_sign sign (le (take size (drop place b)))))

@@ -78,7 +78,7 @@ put_made {s} h i n low {t} e =
 pub slots_lawful : Lawful slots Made
 slots_lawful = record {
   put_view = λ {s} h {i} k {n} low e. put-held h i k n e;
-  put-sound = λ {s} h {i} k {n} low e. put_made h i n low e;
+  put_sound = λ {s} h {i} k {n} low e. put_made h i n low e;
 }
 
 -- the filled slots are those that hold a name

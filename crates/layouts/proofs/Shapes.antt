@@ -82,18 +82,18 @@ module _ (b : List ℕ) (p : ℕ) where
   -- a row without children, by what stands behind its tag
   leaf-is : {allow : Allowed} {tag : ℕ} {l : List ℕ} → Leaf allow tag l → Stands b (p + 1) l → shape_by b p tag ≡ ends (p + 1 + length l)
   unfolding shape_by
-  leaf-is (layout.small-integer e) s = ap ends (omega arith)
+  leaf-is (layout.small_integer e) s = ap ends (omega arith)
   leaf-is (layout.integer e) s = ap ends (omega arith)
-  leaf-is (layout.number-text y e t) s = ap ends (omega arith)
+  leaf-is (layout.number_text y e t) s = ap ends (omega arith)
   leaf-is (layout.double e) s = ap ends (omega arith)
   leaf-is (layout.old_atom n name w u) s = sized 0 n name w (omega arith) s
   leaf-is (layout.atom n name w u) s = sized 0 n name w (omega arith) s
-  leaf-is (layout.small-atom n name w u) s = sized 0 n name w (omega arith) s
+  leaf-is (layout.small_atom n name w u) s = sized 0 n name w (omega arith) s
   leaf-is layout.nil s = ap ends (omega arith)
   leaf-is (layout.string n r w) s = sized 0 n r w (omega arith) s
   leaf-is (layout.binary n r w c) s = sized 0 n r w (omega arith) s
-  leaf-is (layout.bit-string n k r w c t) s = sized 1 n (k ∷ r) w (omega arith) s
-  leaf-is (layout.small-big n sign r w) s = sized 1 n (sign ∷ r) w (omega arith) s
+  leaf-is (layout.bit_string n k r w c t) s = sized 1 n (k ∷ r) w (omega arith) s
+  leaf-is (layout.small_big n sign r w) s = sized 1 n (sign ∷ r) w (omega arith) s
   leaf-is (layout.large_big n sign r w) s = sized 1 n (sign ∷ r) w (omega arith) s
   leaf-is (layout.position y k) s = ap ends (omega arith)
 
@@ -105,8 +105,8 @@ module _ (b : List ℕ) (p : ℕ) where
   row_is : {allow : Allowed} {x : Tree} → Laid allow x → Stands b (p + 1) (front_of x) → shape_by b p (tag_of x) ≡ shape_of x p
   unfolding shape_by count
   row_is (layout.row l) s = leaf-is l s
-  row_is (layout.small-tuple w a) s = alike (omega (arith, w.wide)) (told w s) refl
-  row_is (layout.large_tuple_lem w c a) s = alike (omega (arith, w.wide)) (told w s) refl
+  row_is (layout.small_tuple w a) s = alike (omega (arith, w.wide)) (told w s) refl
+  row_is (layout.large_tuple w c a) s = alike (omega (arith, w.wide)) (told w s) refl
   row_is (layout.list w c e a) s = let t = told w s in alike (omega (arith, w.wide)) (omega arith) refl
   row_is (layout.map w c e a) s = let t = told w s in alike (omega (arith, w.wide)) (omega arith) refl
   row_is (layout.pid a i e) s = alike (omega arith) refl (sym e)
@@ -128,8 +128,8 @@ shape_is b p (node tag front kids back) l a s =
 -- a laid tree's children are laid
 pub kids_laid : {allow : Allowed} {tag : ℕ} {front : List ℕ} {ts : Forest} {back : List ℕ} → Laid allow (node tag front ts back) → AllLaid allow ts
 kids_laid (layout.row l) = layout.no_more
-kids_laid (layout.small-tuple w a) = a
-kids_laid (layout.large_tuple_lem w c a) = a
+kids_laid (layout.small_tuple w a) = a
+kids_laid (layout.large_tuple w c a) = a
 kids_laid (layout.list w c e a) = a
 kids_laid (layout.map w c e a) = a
 kids_laid (layout.pid a i e) = layout.one_more a layout.no_more
@@ -147,8 +147,8 @@ pub record OneLeaf (ts : Forest) : Type 0 where
 -- an atom has no children
 atom-leaf : {allow : Allowed} {x : Tree} → Laid allow x → IsAtom (tag_of x) → OneLeaf (more x none)
 atom-leaf (layout.row {tag} {l} q) i = record { tag = tag; front = l; is = refl }
-atom-leaf {allow = allow} (layout.small-tuple {n = n} {ts = ts} _ _) i = elim i [ ]
-atom-leaf {allow = allow} (layout.large_tuple_lem {n = n} {ts = ts} _ _ _) i = elim i [ ]
+atom-leaf {allow = allow} (layout.small_tuple {n = n} {ts = ts} _ _) i = elim i [ ]
+atom-leaf {allow = allow} (layout.large_tuple {n = n} {ts = ts} _ _ _) i = elim i [ ]
 atom-leaf {allow = allow} (layout.list {n = n} {m = m} {ts = ts} _ _ _ _) i = elim i [ ]
 atom-leaf {allow = allow} (layout.map {n = n} {m = m} {ts = ts} _ _ _ _) i = elim i [ ]
 atom-leaf {allow = allow} (layout.pid {k = k} _ _ _) i = elim i [ ]
@@ -160,8 +160,8 @@ atom-leaf {allow = allow} (layout.function f n {y = y} {z = z} {p = p} {ts = ts}
 -- bytes behind the children stand only behind one atom, which has no children
 pub one-leaf : {allow : Allowed} {tag : ℕ} {front : List ℕ} {ts : Forest} {back : List ℕ} → Laid allow (node tag front ts back) → ¬ (back ≡ []) → OneLeaf ts
 one-leaf (layout.row l) h = absurd (h refl)
-one-leaf (layout.small-tuple w a) h = absurd (h refl)
-one-leaf (layout.large_tuple_lem w c a) h = absurd (h refl)
+one-leaf (layout.small_tuple w a) h = absurd (h refl)
+one-leaf (layout.large_tuple w c a) h = absurd (h refl)
 one-leaf (layout.list w c e a) h = absurd (h refl)
 one-leaf (layout.map w c e a) h = absurd (h refl)
 one-leaf (layout.pid a i e) h = atom-leaf a i

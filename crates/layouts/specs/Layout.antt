@@ -36,16 +36,16 @@ pub data IsNatural (most : ℕ) : Tree → Type 0 where
 -- the rows without children: the tag, and the bytes after it
 pub data Leaf (allow : Allowed) : ℕ → List ℕ → Type 0 where
   -- "97 / 98: 1 byte unsigned / 4 bytes two's complement"
-  small-integer : {l : List ℕ} → length l ≡ 1 → Leaf allow 97 l
+  small_integer : {l : List ℕ} → length l ≡ 1 → Leaf allow 97 l
   integer : {l : List ℕ} → length l ≡ 4 → Leaf allow 98 l
   -- "99: 31 bytes of text"
-  number-text : {l : List ℕ} → allow.texts ≡ true → length l ≡ 31 → NumberText l → Leaf allow 99 l
+  number_text : {l : List ℕ} → allow.texts ≡ true → length l ≡ 31 → NumberText l → Leaf allow 99 l
   -- "70: 8 bytes, a double's bits, kept exactly"
   double : {l : List ℕ} → length l ≡ 8 → Leaf allow 70 l
   -- "100, 118 / 119: length of 2 / 1 bytes, name in UTF-8"
   old_atom : (n name : List ℕ) → Number 2 n (length name) → Utf8 name → Leaf allow 100 (n ++ name)
   atom : (n name : List ℕ) → Number 2 n (length name) → Utf8 name → Leaf allow 118 (n ++ name)
-  small-atom : (n name : List ℕ) → Number 1 n (length name) → Utf8 name → Leaf allow 119 (n ++ name)
+  small_atom : (n name : List ℕ) → Number 1 n (length name) → Utf8 name → Leaf allow 119 (n ++ name)
   -- "106: nothing"
   nil : Leaf allow 106 []
   -- "107: length of 2 bytes, bytes; a list of integers 0 to 255"
@@ -53,9 +53,9 @@ pub data Leaf (allow : Allowed) : ℕ → List ℕ → Type 0 where
   -- "109: length of 4 bytes, bytes"
   binary : (n s : List ℕ) → Number 4 n (length s) → length s ≤ cap.binary → Leaf allow 109 (n ++ s)
   -- "77: length of 4 bytes, bits byte, bytes"
-  bit-string : (n : List ℕ) (k : ℕ) (s : List ℕ) → Number 4 n (length s) → length s ≤ cap.binary → cap.bits_byte (length s) k ≡ true → Leaf allow 77 (n ++ (k ∷ s))
+  bit_string : (n : List ℕ) (k : ℕ) (s : List ℕ) → Number 4 n (length s) → length s ≤ cap.binary → cap.bits_byte (length s) k ≡ true → Leaf allow 77 (n ++ (k ∷ s))
   -- "110 / 111: n of 1 / 4 bytes, sign byte (nonzero is negative), n digit bytes, least first"
-  small-big : (n : List ℕ) (sign : ℕ) (s : List ℕ) → Number 1 n (length s) → Leaf allow 110 (n ++ (sign ∷ s))
+  small_big : (n : List ℕ) (sign : ℕ) (s : List ℕ) → Number 1 n (length s) → Leaf allow 110 (n ++ (sign ∷ s))
   large_big : (n : List ℕ) (sign : ℕ) (s : List ℕ) → Number 4 n (length s) → Leaf allow 111 (n ++ (sign ∷ s))
   -- "tag 82 and one byte is also an atom .. the byte is a position in this header's list of references"
   position : {k : ℕ} → allow.names ≡ true → allow.known k ≡ true → Leaf allow 82 (k ∷ [])
@@ -65,8 +65,8 @@ mutual
   pub data Laid (allow : Allowed) : Tree → Type 0 where
     row : {tag : ℕ} {l : List ℕ} → Leaf allow tag l → Laid allow (leaf tag l)
     -- "104 / 105: arity of 1 / 4 bytes, children"
-    small-tuple : {n : List ℕ} {ts : Forest} → Number 1 n (count ts) → AllLaid allow ts → Laid allow (node 104 n ts [])
-    large_tuple_lem : {n : List ℕ} {ts : Forest} → Number 4 n (count ts) → count ts ≤ cap.elements → AllLaid allow ts → Laid allow (node 105 n ts [])
+    small_tuple : {n : List ℕ} {ts : Forest} → Number 1 n (count ts) → AllLaid allow ts → Laid allow (node 104 n ts [])
+    large_tuple : {n : List ℕ} {ts : Forest} → Number 4 n (count ts) → count ts ≤ cap.elements → AllLaid allow ts → Laid allow (node 105 n ts [])
     -- "108: length of 4 bytes, children, then a tail child"
     list : {n : List ℕ} {m : ℕ} {ts : Forest} → Number 4 n m → m ≤ cap.elements → count ts ≡ m + 1 → AllLaid allow ts → Laid allow (node 108 n ts [])
     -- "116: arity of 4 bytes, key and value pairs"

@@ -10,7 +10,7 @@ use borrow.Author.Tests.{eqb-true, eq-eqb, ne_eqb, leb-true, le-leb, ltb-true, l
 use lib.Dec.{eqb, ltb}
 use lib.ListN.{length, get_or, drop, length-append}
 use Rattle.literal.specs.Literal.{Sign, unsigned, plus, minus, sign_text, Digits, none, more, Cased, Word, end, letter, Point, no_point, a_point, Exponent, absent, power, Power, no_power, a_power, Value, number, Spells, inf, infinity, not_a_number, digits, Literal}
-use Rattle.literal.specs.Inner.Parse.{after_sign, is_digit, after_digits, is_cased, is_word, is_ending, is_number, inf-text, infinity-text, nan-text, is_literal}
+use Rattle.literal.specs.Inner.Parse.{after_sign, is_digit, after_digits, is_cased, is_word, is_ending, is_number, inf_text, infinity_text, nan_text, is_literal}
 use Rattle.literal.proofs.Pieces as pieces
 
 either : (a b : Bool) → a || b ≡ true → (a ≡ true) ⊎ (b ≡ true)
@@ -210,8 +210,8 @@ literal-is s = (
   λ e.
       ⊎_elim (λ e. made (inf (word_is _ _ e)))
       (λ e. ⊎_elim (λ e. made (infinity (word_is _ _ e)))
-      (λ e. ⊎_elim (λ e. made (not_a_number (word_is _ _ e))) (λ e. made (number_is t e).1) (either (is_word nan-text t) _ e))
-      (either (is_word infinity-text t) _ e)) (either (is_word inf-text t) _ (sym (pieces.literal-at s) ∙ e)),
+      (λ e. ⊎_elim (λ e. made (not_a_number (word_is _ _ e))) (λ e. made (number_is t e).1) (either (is_word nan_text t) _ e))
+      (either (is_word infinity_text t) _ e)) (either (is_word inf_text t) _ (sym (pieces.literal-at s) ∙ e)),
   λ l. sym (spells_pass l.spelled s (sym (ap after_sign l.text ∙ sign_passes l.sign l.rest (spells_first l.spelled)))),
 )
   where

@@ -10,7 +10,7 @@ use borrow.Author.Tests.{eq-eqb, ne_eqb, lt-ltb, le-ltb}
 use lib.Dec.{ltb}
 use lib.ListN.{length, get_or, take, drop, length-drop, drop_of_length-le}
 use lib.Seq.{take_all, drop-cons}
-use Rattle.literal.specs.Inner.Parse.{after_sign, is_digit, after_digits, is_cased, is_word, is_ending, is_number, inf-text, infinity-text, nan-text, is_literal}
+use Rattle.literal.specs.Inner.Parse.{after_sign, is_digit, after_digits, is_cased, is_word, is_ending, is_number, inf_text, infinity_text, nan_text, is_literal}
 
 -- the part from i on, as the code takes it
 pub part : (s : List ℕ) (i : ℕ) → take (length s - i) (drop i s) ≡ drop i s
@@ -116,20 +116,20 @@ module _ (s t : List ℕ) (x : t ≡ after_digits s) where
 -- ---- the whole text
 
 pub literal-at : (s : List ℕ)
-    → is_literal s ≡ is_word inf-text (after_sign s) || (is_word infinity-text (after_sign s) || (is_word nan-text (after_sign s) || is_number (after_sign s)))
+    → is_literal s ≡ is_word inf_text (after_sign s) || (is_word infinity_text (after_sign s) || (is_word nan_text (after_sign s) || is_number (after_sign s)))
 unfolding is_literal
 literal-at s = refl
 
 module _ (s t : List ℕ) (x : t ≡ after_sign s) where
-  pub is-inf : is_word inf-text t ≡ true → true ≡ is_literal s
+  pub is-inf : is_word inf_text t ≡ true → true ≡ is_literal s
   is-inf e = rw (literal-at, ← x, e)
 
-  pub is-infinity : is_word infinity-text t ≡ true → true ≡ is_literal s
+  pub is-infinity : is_word infinity_text t ≡ true → true ≡ is_literal s
   is-infinity e = rw (literal-at, ← x, e, or-true)
 
-  pub is-nan : is_word nan-text t ≡ true → true ≡ is_literal s
+  pub is-nan : is_word nan_text t ≡ true → true ≡ is_literal s
   is-nan e = rw (literal-at, ← x, e, or-true, or-true)
 
-  pub no_word : {r : Bool} → is_word inf-text t ≡ false → is_word infinity-text t ≡ false → is_word nan-text t ≡ false → r ≡ is_number t
+  pub no_word : {r : Bool} → is_word inf_text t ≡ false → is_word infinity_text t ≡ false → is_word nan_text t ≡ false → r ≡ is_number t
       → r ≡ is_literal s
   no_word e f g h = rw (literal-at, ← x, e, f, g) h

@@ -15,7 +15,7 @@ use Rattle.utf8.specs.Good as good
 use Rattle.reading.specs.declared.Answer.{Answer}
 use Rattle.reading.specs.Answer.{read_at}
 use Rattle.layouts.specs.Tree.{Tree, node, none, more, leaf, count, bytes, size, depth, Stands}
-use Rattle.layouts.specs.Layout.{Laid, row, map, nil, small-integer, integer, small-atom, string, small-big, no_more, one_more}
+use Rattle.layouts.specs.Layout.{Laid, row, map, nil, small_integer, integer, small_atom, string, small_big, no_more, one_more}
 use Rattle.accepts.proofs.Accepts.{read_complete}
 use Rattle.lookup.specs.Lookup.{Key, name, number, Looked}
 use Rattle.lookup.specs.Inner.Found.{same_bytes, same_integer, equal, found, looked}
@@ -48,8 +48,8 @@ pairs-laid : Laid plain pairs
 unfolding pairs be count
 pairs-laid =
     map {m = 2} (record { wide = refl; is = refl }) (lit≤ tt) refl
-    (one_more (row (small-integer refl)) (one_more (row (small-integer refl))
-    (one_more (row (integer refl)) (one_more (row (small-integer refl)) no_more))))
+    (one_more (row (small_integer refl)) (one_more (row (small_integer refl))
+    (one_more (row (integer refl)) (one_more (row (small_integer refl)) no_more))))
 
 pub last_wins : {r : Answer} → Looked (131 ∷ 116 ∷ 0 ∷ 0 ∷ 0 ∷ 2 ∷ 97 ∷ 1 ∷ 97 ∷ 7 ∷ 98 ∷ 0 ∷ 0 ∷ 0 ∷ 1 ∷ 97 ∷ 8 ∷ []) 1 64 (number (pos 1)) r →
     (r.number ≡ 0) × (r.offset ≡ 15) × (r.end ≡ 17) × (r.begun ≡ 5)
@@ -80,7 +80,7 @@ signed_key l =
 -- 131 116 0 0 0 1 110 1 0 1 106: key 1 is Absent, at the map. A lookup that compares big integers finds it
 big-one : Laid plain (leaf 110 (1 ∷ 0 ∷ 1 ∷ []))
 unfolding be
-big-one = row (small-big (1 ∷ []) 0 (1 ∷ []) (record { wide = refl; is = refl }))
+big-one = row (small_big (1 ∷ []) 0 (1 ∷ []) (record { wide = refl; is = refl }))
 
 pub big_key : {r : Answer} → Looked (131 ∷ 116 ∷ 0 ∷ 0 ∷ 0 ∷ 1 ∷ 110 ∷ 1 ∷ 0 ∷ 1 ∷ 106 ∷ []) 1 64 (number (pos 1)) r → (r.number ≡ 16) × (r.offset ≡ 1)
 unfolding only bytes depth equal found looked
@@ -91,7 +91,7 @@ two_letters : Laid plain (leaf 119 (2 ∷ 97 ∷ 98 ∷ []))
 unfolding be scalar encode good.spelled
 two_letters =
     let text : good.Utf8 (97 ∷ 98 ∷ []) = record { chars = 97 ∷ 98 ∷ []; scalars = good.more refl (good.more refl good.none); is = refl } in
-    row (small-atom (2 ∷ []) (97 ∷ 98 ∷ []) (record { wide = refl; is = refl }) text)
+    row (small_atom (2 ∷ []) (97 ∷ 98 ∷ []) (record { wide = refl; is = refl }) text)
 
 pub longer_name : {r : Answer} → Looked (131 ∷ 116 ∷ 0 ∷ 0 ∷ 0 ∷ 1 ∷ 119 ∷ 2 ∷ 97 ∷ 98 ∷ 106 ∷ []) 1 64 (name (97 ∷ [])) r → (r.number ≡ 16) × (r.offset ≡ 1)
 unfolding only bytes depth same_bytes equal found looked

@@ -16,7 +16,7 @@ use Rattle.layouts.specs.Tree.{Tree, Forest, node, none, more, count, bytes, tag
 use Rattle.lookup.specs.declared.Place.{Place}
 use Rattle.lookup.specs.declared.Place.TheVariants as place
 use Rattle.lookup.specs.Lookup.{Key, name, number, Equal, atom_119, atom_100, atom_118, integer_97, integer_98}
-use Rattle.lookup.specs.Lookup.{Without, no_pairs, one_more, Last, first, later, Answers, is_found, is-absent, no-map}
+use Rattle.lookup.specs.Lookup.{Without, no_pairs, one_more, Last, first, later, Answers, is_found, is_absent, no_map}
 use Rattle.lookup.specs.Inner.Found.{same_bytes, same_integer, equal, or_else, found, Says, told, looked}
 use Rattle.lookup.proofs.Compare.{bytes-only, bytes_itself, integer-only, integer_itself}
 
@@ -100,7 +100,7 @@ module _ (k : Key) where
   module _ (at : ℕ) (a : Answer) where
     says_told : {front back : List ℕ} {kids : Forest} (o : Place) → Says k (at + 1 + length front) kids o → Answers k at a (node 116 front kids back) (told at a o)
     says_told (place.At q) s = is_found s
-    says_told place.Nowhere s = is-absent s
+    says_told place.Nowhere s = is_absent s
 
     pub answered : (t : Tree) (m : ℕ) → (tag_of t ≡ 116 → count (kids_of t) ≡ 2 * m) → Answers k at a t (looked k at t a)
     unfolding looked
@@ -108,13 +108,13 @@ module _ (k : Key) where
       where
         go : (x : Bool) → eqb tag 116 ≡ x → Answers k at a (node tag front kids back) (looked k at (node tag front kids back) a)
         go true e = let f = eqb-true tag 116 e in rw f (says_told (found k (at + 1 + length front) kids) (found_says m (at + 1 + length front) kids (even f)))
-        go false e = rw e (no-map (eqb-false tag 116 e))
+        go false e = rw e (no_map (eqb-false tag 116 e))
 
     pub one-looked : {t : Tree} {r : Answer} → Answers k at a t r → r ≡ looked k at t a
     unfolding looked
     one-looked (is_found l) = rw (last_found l)
-    one-looked (is-absent w) = rw (none_found _ w)
-    one-looked (no-map {t} h) = other t h
+    one-looked (is_absent w) = rw (none_found _ w)
+    one-looked (no_map {t} h) = other t h
       where
         other : (t : Tree) (h : ¬ (tag_of t ≡ 116)) → refusal answer.Kind at (tag_of t) a.begun a.deepest [] ≡ looked k at t a
         other (node tag front kids back) h = rw (ne_eqb tag 116 h)

@@ -41,8 +41,8 @@ moved q a = record { number = a.number; end = a.end; offset = q; extra = a.extra
 -- it, which answered a
 pub data Answers (k : Key) (at : ℕ) (a : Answer) : Tree → Answer → Type 0 where
   is_found : {q : ℕ} {n back : List ℕ} {ts : Forest} → Last k q (at + 1 + length n) ts → Answers k at a (node 116 n ts back) (moved q a)
-  is-absent : {n back : List ℕ} {ts : Forest} → Without k ts → Answers k at a (node 116 n ts back) (refusal answer.Absent at 0 a.begun a.deepest [])
-  no-map : {t : Tree} → ¬ (tag_of t ≡ 116) → Answers k at a t (refusal answer.Kind at (tag_of t) a.begun a.deepest [])
+  is_absent : {n back : List ℕ} {ts : Forest} → Without k ts → Answers k at a (node 116 n ts back) (refusal answer.Absent at 0 a.begun a.deepest [])
+  no_map : {t : Tree} → ¬ (tag_of t ≡ 116) → Answers k at a t (refusal answer.Kind at (tag_of t) a.begun a.deepest [])
 
 -- "It reads the whole term there, at nesting 1": as reading refuses; else by the term that stands there, which is one and no other by the
 -- laws of layouts (read_sound, unique)

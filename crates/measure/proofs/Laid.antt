@@ -22,14 +22,14 @@ number k n h = record { wide = length-bytes_of k n; is = be-bytes_of k n h }
 
 big-laid : (s m : ℕ) → Laid plain (big s m)
 unfolding big
-big-laid s m = row (layout.small-big (bytes_of 1 (length (digits_of 8 m))) s (digits_of 8 m) (number 1 (length (digits_of 8 m)) (omega (arith, few-digits 8 m))))
+big-laid s m = row (layout.small_big (bytes_of 1 (length (digits_of 8 m))) s (digits_of 8 m) (number 1 (length (digits_of 8 m)) (omega (arith, few-digits 8 m))))
 
 integer-laid : (z : ℤ) → Laid plain (integer_tree z)
 unfolding integer_tree
 integer-laid (pos n) = go (ltb n 256) (ltb n 2147483648)
   where
     go : (x y : Bool) → Laid plain (cond x (leaf 97 (bytes_of 1 n)) (cond y (leaf 98 (bytes_of 4 n)) (big 0 n)))
-    go true y = row (layout.small-integer (length-bytes_of 1 n))
+    go true y = row (layout.small_integer (length-bytes_of 1 n))
     go false true = row (layout.integer (length-bytes_of 4 n))
     go false false = big-laid 0 n
 integer-laid (negsuc n) = go (ltb n 2147483648)
@@ -48,15 +48,15 @@ module _ {ks : Forest} (l : AllLaid plain ks) where
   tuple-laid n h c = go (leb n 255) refl
     where
       go : (x : Bool) → leb n 255 ≡ x → Laid plain (cond x (node 104 (bytes_of 1 n) ks []) (node 105 (bytes_of 4 n) ks []))
-      go true e = layout.small-tuple {n = bytes_of 1 n} {ts = ks} (rw c (number 1 n (omega (arith, leb-true n 255 e)))) l
-      go false e = layout.large_tuple_lem {n = bytes_of 4 n} {ts = ks} (rw c (number 4 n (omega arith))) (omega arith) l
+      go true e = layout.small_tuple {n = bytes_of 1 n} {ts = ks} (rw c (number 1 n (omega (arith, leb-true n 255 e)))) l
+      go false e = layout.large_tuple {n = bytes_of 4 n} {ts = ks} (rw c (number 4 n (omega arith))) (omega arith) l
 
   atom-laid : (s : List ℕ) → length s ≤ 65535 → Utf8 s → Laid plain (tree_of (atom s) ks)
   unfolding tree_of
   atom-laid s h u = go (leb (length s) 255) refl
     where
       go : (x : Bool) → leb (length s) 255 ≡ x → Laid plain (cond x (leaf 119 (bytes_of 1 (length s) ++ s)) (leaf 118 (bytes_of 2 (length s) ++ s)))
-      go true e = row (layout.small-atom (bytes_of 1 (length s)) s (number 1 (length s) (omega (arith, leb-true (length s) 255 e))) u)
+      go true e = row (layout.small_atom (bytes_of 1 (length s)) s (number 1 (length s) (omega (arith, leb-true (length s) 255 e))) u)
       go false e = row (layout.atom (bytes_of 2 (length s)) s (number 2 (length s) (omega arith)) u)
 
   tree-laid : (i : Item) → allowed i ≡ true → count ks ≡ kids_of i → Laid plain (tree_of i ks)

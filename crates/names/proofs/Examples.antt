@@ -20,7 +20,7 @@ map_of (no n x) = λ j. nothing
 pub maps_lawful : Lawful (maps_by updated) (λ s. Unit {0})
 maps_lawful = record {
   put_view = λ {s} h {i} k {n} l {t} e j. ap (λ (p : Put (ℕ → Held)). map_of p j) (sym e);
-  put-sound = λ h k l e. tt;
+  put_sound = λ h k l e. tt;
 }
 
 no_name : {n : List ℕ} → nothing ≡ name n → ⊥

@@ -53,7 +53,7 @@ module _ (F : Form) where
     put_all_lem (ref.New slot at n ∷ rs) (more (new i e) fs) s h j =
         let low' = bytes-part b n at low in
         by_put s (record { slot = slot; name = take n (drop at b) }) (put_all F b rest rs) (completed F b rs) j
-        (λ t q. put_all_lem rs fs t (L.put-sound h i low' q) j ∙ same_map (completed F b rs t) _ _ (L.put_view h i low' q) j)
+        (λ t q. put_all_lem rs fs t (L.put_sound h i low' q) j ∙ same_map (completed F b rs t) _ _ (L.put_view h i low' q) j)
     put_all_lem (ref.No n x ∷ rs) f s h j = refl
 
     pub all_sound : (rs : List Reference) → All (Fits b) rs → (s : F.State) → Sound s → Sound (put_all F b rest rs s).cache
@@ -62,7 +62,7 @@ module _ (F : Form) where
     all_sound (ref.Old slot ∷ rs) (more f fs) s h = all_sound rs fs s h
     all_sound (ref.New slot at n ∷ rs) (more (new i e) fs) s h =
         by_state s (record { slot = slot; name = take n (drop at b) }) (put_all F b rest rs) (λ t. []) Sound h
-        (λ t q. all_sound rs fs t (L.put-sound h i (bytes-part b n at low) q))
+        (λ t q. all_sound rs fs t (L.put_sound h i (bytes-part b n at low) q))
     all_sound (ref.No n x ∷ rs) f s h = h
 
   -- so of a whole header, over a cache that the form's own calls made

@@ -24,7 +24,7 @@ use Rattle.rows.proofs.Laws as row
 use Rattle.reading.specs.declared.Kind.TheVariants as kind
 use Rattle.reading.specs.declared.Segment.{Segment}
 use Rattle.reading.specs.Reading.{State, Result, done, no, and_then, moved, reach, begin, refused, fields, pass, sized, counted}
-use Rattle.reading.specs.Terms.{elems, pairs, required, is_atom, is_natural, is_pid, small_tuple, large_tuple, list, map, pid, reference, export, captured, function, body, term}
+use Rattle.reading.specs.Terms.{elems, required, is_atom, is_natural, is_pid, small_tuple, large_tuple, list, map, pid, reference, export, captured, function, body, term}
 
 pub fields-to : (s : State) {r : Row} {e : ℕ} → r ≡ To e → fields r s ≡ done (moved e s)
 unfolding fields

@@ -60,7 +60,7 @@ module _ {limit : ℕ} {r : Answer} {old new : List ℕ} where
   pub unsigned : Recorded (131 ∷ 97 ∷ 255 ∷ []) limit r old new → ¬ Returns (131 ∷ 97 ∷ 255 ∷ []) (integer (negsuc 0) ∷ []) r new
   unfolding bytes nodes flat_map words taped tails tails_of told is_tail item_at said front_length be
   unsigned p h =
-      let e : integer (pos 255) ∷ [] ≡ integer (negsuc 0) ∷ [] = returned (leaf 97 (255 ∷ [])) (row (layout.small-integer refl)) p h in
+      let e : integer (pos 255) ∷ [] ≡ integer (negsuc 0) ∷ [] = returned (leaf 97 (255 ∷ [])) (row (layout.small_integer refl)) p h in
       let z : ◌≡◌ {A = ℕ} 0 1 = cc in
       omega arith
 

@@ -22,7 +22,7 @@ use Rattle.reading.proofs.Examples.{behind, stands, segment, nil, second_missing
 use Rattle.reading.proofs.Answers as answers
 use Rattle.layouts.specs.Tree.{Tree, node, none, more, leaf, bytes, bytes_all, size, sizes, count}
 use Rattle.layouts.specs.Layout as layout
-use Rattle.layouts.specs.Layout.{Laid, Number, row, small-tuple, list, no_more, one_more}
+use Rattle.layouts.specs.Layout.{Laid, Number, row, small_tuple, list, no_more, one_more}
 use Rattle.layouts.specs.Nodes.{Node, nodes, nodes_all}
 use Rattle.layouts.proofs.Shapes.{unique}
 use Rattle.tape.specs.Cells.{cell_words, cell_of, words, taped}
@@ -67,7 +67,7 @@ exact = record { wide = refl; is = refl }
 -- an atom whose name is a letter
 named : (x : ℕ) → scalar x ≡ true → encode x ≡ x ∷ [] → Laid plain (leaf 119 (1 ∷ x ∷ []))
 unfolding be good.spelled
-named x h e = row (layout.small-atom (1 ∷ []) (x ∷ []) exact (record { chars = x ∷ []; scalars = good.more h good.none; is = rw e }))
+named x h e = row (layout.small_atom (1 ∷ []) (x ∷ []) exact (record { chars = x ∷ []; scalars = good.more h good.none; is = rw e }))
 
 -- 131 106, with room for its cell
 module _ {r : Answer} {old new : List ℕ} (h : 5 ≤ length old) (p : Recorded (131 ∷ 106 ∷ []) 64 r old new) where
@@ -91,7 +91,7 @@ module _ {r : Answer} {old new : List ℕ} (h : 10 ≤ length old) (p : Recorded
   unfolding answer be bytes bytes_all count size sizes words nodes nodes_all flat_map taped
   tuple_tape =
       written p (rw tuple-done refl) (node 104 (1 ∷ []) (more (leaf 106 []) none) [])
-      (small-tuple exact (one_more (row layout.nil) no_more)) refl
+      (small_tuple exact (one_more (row layout.nil) no_more)) refl
 
 -- "a reader that refuses everything": where there is room, 131 106 isn't refused
 pub refuses_everything : {r : Answer} {old new : List ℕ} → 5 ≤ length old → ¬ (r.number ≡ 0) → ¬ Recorded (131 ∷ 106 ∷ []) 64 r old new
@@ -130,7 +130,7 @@ one_then x tail = node 108 (0 ∷ 0 ∷ 0 ∷ 1 ∷ []) (more (leaf 97 (x ∷ []
 
 one-laid : {x : ℕ} {tail : Tree} → Laid plain tail → Laid plain (one_then x tail)
 unfolding be count
-one-laid l = list {m = 1} exact (omega arith) refl (one_more (row (layout.small-integer refl)) (one_more l no_more))
+one-laid l = list {m = 1} exact (omega arith) refl (one_more (row (layout.small_integer refl)) (one_more l no_more))
 
 -- "Folding a list whose tail is a list into one": 131 108 0 0 0 1 97 1 108 0 0 0 1 97 2 106 has five cells, of which the third is the tail's,
 -- and the fourth and fifth are the tail's own children
@@ -166,7 +166,7 @@ printed {r} h p =
       rw e refl,
       rw e refl,
       written p (rw e refl) (node 104 (2 ∷ []) (more (leaf 97 (5 ∷ [])) (more (leaf 119 (1 ∷ 97 ∷ [])) none)) [])
-          (small-tuple exact (one_more (row (layout.small-integer refl)) (one_more (named 97 refl refl) no_more)))
+          (small_tuple exact (one_more (row (layout.small_integer refl)) (one_more (named 97 refl refl) no_more)))
           refl,
     )
 
@@ -187,7 +187,7 @@ pub inside_a_binary : (t : Tree) → Laid plain t → 131 ∷ 104 ∷ 2 ∷ 109 
 unfolding be bytes count nodes
 inside_a_binary t l e w =
     let x : Tree = node 104 (2 ∷ []) (more (leaf 109 (0 ∷ 0 ∷ 0 ∷ 1 ∷ 106 ∷ [])) (more (leaf 106 []) none)) [] in
-    let k : Laid plain x = small-tuple exact (one_more (row (layout.binary (0 ∷ 0 ∷ 0 ∷ 1 ∷ []) (106 ∷ []) exact (omega arith))) (one_more (row layout.nil) no_more)) in
+    let k : Laid plain x = small_tuple exact (one_more (row (layout.binary (0 ∷ 0 ∷ 0 ∷ 1 ∷ []) (106 ∷ []) exact (omega arith))) (one_more (row layout.nil) no_more)) in
     omega (arith, ap (λ (c : List ℕ). get_or c 0 0) (must_be x t (omega arith) k refl l e w 1 (omega arith) refl))
 
 -- or inside a name: 131 104 1 119 1 106 has the atom's cell, and none for the byte 106 in it
@@ -196,7 +196,7 @@ pub inside_a_name : (t : Tree) → Laid plain t → 131 ∷ 104 ∷ 1 ∷ 119 �
 unfolding be bytes count nodes scalar encode
 inside_a_name t l e w =
     let x : Tree = node 104 (1 ∷ []) (more (leaf 119 (1 ∷ 106 ∷ [])) none) [] in
-    let k : Laid plain x = small-tuple exact (one_more (named 106 refl refl) no_more) in
+    let k : Laid plain x = small_tuple exact (one_more (named 106 refl refl) no_more) in
     omega (arith, ap (λ (c : List ℕ). get_or c 0 0) (must_be x t (omega arith) k refl l e w 1 (omega arith) refl))
 
 -- a reader that writes one child's cell for its sibling too: the third cell of 131 104 2 106 106 starts at 4 and not at 3
@@ -205,7 +205,7 @@ pub child_twice : (t : Tree) → Laid plain t → 131 ∷ 104 ∷ 2 ∷ 106 ∷ 
 unfolding be bytes count nodes
 child_twice t l e w =
     let x : Tree = node 104 (2 ∷ []) (more (leaf 106 []) (more (leaf 106 []) none)) [] in
-    let k : Laid plain x = small-tuple exact (one_more (row layout.nil) (one_more (row layout.nil) no_more)) in
+    let k : Laid plain x = small_tuple exact (one_more (row layout.nil) (one_more (row layout.nil) no_more)) in
     omega (arith, ap (λ (c : List ℕ). get_or c 1 0) (must_be x t (omega arith) k refl l e w 2 (omega arith) refl))
 
 -- a reader that writes a cell when its term ends: the cells of 131 104 1 106 are all there, and the child's stands before its parent's
@@ -214,5 +214,5 @@ pub children_first : (t : Tree) → Laid plain t → 131 ∷ 104 ∷ 1 ∷ 106 �
 unfolding be bytes count nodes
 children_first t l e w =
     let x : Tree = node 104 (1 ∷ []) (more (leaf 106 []) none) [] in
-    let k : Laid plain x = small-tuple exact (one_more (row layout.nil) no_more) in
+    let k : Laid plain x = small_tuple exact (one_more (row layout.nil) no_more) in
     omega (arith, ap (λ (c : List ℕ). get_or c 0 0) (must_be x t (omega arith) k refl l e w 0 (omega arith) refl))

@@ -95,11 +95,11 @@ module _ (kind x : ℕ) {p room : ℕ} (f : ParentFits kind x p room) where
   pub a_nil : kind ≡ 8 → bytes ≡ 106 ∷ []
   a_nil e = ap head_of (parent 8 e (kind_nil [] x 0)) ∙ head-nil
 
-  pub small-tuple : kind ≡ 5 → x < 256 → Numbered bytes 104 1 x
-  small-tuple e h = record { is = ap head_of (parent 5 e (kind_tuple [] x 0)) ∙ head-small-tuple x (omega arith); holds = h }
+  pub small_tuple : kind ≡ 5 → x < 256 → Numbered bytes 104 1 x
+  small_tuple e h = record { is = ap head_of (parent 5 e (kind_tuple [] x 0)) ∙ head-small-tuple x (omega arith); holds = h }
 
-  pub large_tuple_lem : kind ≡ 5 → 256 ≤ x → Numbered bytes 105 4 x
-  large_tuple_lem e h = let i = parent 5 e (kind_tuple [] x 0) in record { is = ap head_of i ∙ head_large_tuple x h; holds = omega (arith, (tuple-allowed x).0 (good i)) }
+  pub large_tuple : kind ≡ 5 → 256 ≤ x → Numbered bytes 105 4 x
+  large_tuple e h = let i = parent 5 e (kind_tuple [] x 0) in record { is = ap head_of i ∙ head_large_tuple x h; holds = omega (arith, (tuple-allowed x).0 (good i)) }
 
   pub a_list : kind ≡ 6 → Numbered bytes 108 4 x
   a_list e = let i = parent 6 e (kind_list [] x 0) in record { is = ap head_of i ∙ head-list x; holds = omega (arith, (list-allowed x).0 (good i)) }

@@ -40,18 +40,18 @@ is_number s =
     cond (eqb (get_or t 0 0) 46) (ltb (length u + 1) (length s) && is_ending u) (ltb (length t) (length s) && is_ending t)
 
 -- "inf, infinity or nan"
-abbrev pub inf-text : List ℕ
-inf-text = 105 ∷ 110 ∷ 102 ∷ []
+abbrev pub inf_text : List ℕ
+inf_text = 105 ∷ 110 ∷ 102 ∷ []
 
-abbrev pub infinity-text : List ℕ
-infinity-text = 105 ∷ 110 ∷ 102 ∷ 105 ∷ 110 ∷ 105 ∷ 116 ∷ 121 ∷ []
+abbrev pub infinity_text : List ℕ
+infinity_text = 105 ∷ 110 ∷ 102 ∷ 105 ∷ 110 ∷ 105 ∷ 116 ∷ 121 ∷ []
 
-abbrev pub nan-text : List ℕ
-nan-text = 110 ∷ 97 ∷ 110 ∷ []
+abbrev pub nan_text : List ℕ
+nan_text = 110 ∷ 97 ∷ 110 ∷ []
 
 -- a sign, then one of these, or a number
 unfoldable pub is_literal : List ℕ → Bool
 unfolding after_sign is_digit after_digits is_cased is_word is_ending is_number
 is_literal s =
     let t = after_sign s in
-    is_word inf-text t || (is_word infinity-text t || (is_word nan-text t || is_number t))
+    is_word inf_text t || (is_word infinity_text t || (is_word nan_text t || is_number t))

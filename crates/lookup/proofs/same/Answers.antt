@@ -1,5 +1,4 @@
 -- `lookup::same` meets its contract. The loop's invariant: the first i bytes are the same, so that the rest tells. Assumes nothing.
-use Prim.Native.Nat.{◌-◌}
 use native.Mathlib.Omega.{arith}
 use mathlib.Core.Path.{◌≡◌, refl, sym, ◌∙◌}
 use borrow.Author.Rules.{rules}

@@ -1,6 +1,5 @@
 -- `lookup::skip` meets its contract. The loop's invariant: what is owed from here on ends where the term does. The measure is the bytes
 -- left. Assumes nothing.
-use Prim.Native.Nat.{◌-◌}
 use native.Mathlib.Omega.{arith}
 use mathlib.Core.Path.{◌≡◌}
 use Rattle.lookup.proofs.Passing.{bound, at_first, at_last, goes_into, goes_over}

@@ -46,4 +46,4 @@ Bytes l = (k : ℕ) → get_or l k 0 < 256
 pub record Lawful (F : Form) (Sound : F.State → Type 0) : Type 0 where
   pub put_view : {s : F.State} → Sound s → {i : ℕ} → i < 256 → {n : List ℕ} → Bytes n → {t : F.State} → F.put s i n ≡ done t →
       (j : ℕ) → F.held t j ≡ updated (F.held s) i n j
-  pub put-sound : {s : F.State} → Sound s → {i : ℕ} → i < 256 → {n : List ℕ} → Bytes n → {t : F.State} → F.put s i n ≡ done t → Sound t
+  pub put_sound : {s : F.State} → Sound s → {i : ℕ} → i < 256 → {n : List ℕ} → Bytes n → {t : F.State} → F.put s i n ≡ done t → Sound t

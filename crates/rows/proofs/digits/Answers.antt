@@ -2,7 +2,6 @@
 use native.Mathlib.Omega.{arith}
 use mathlib.Core.Path.{◌∙◌}
 use Rattle.rows.specs.Layout.{digits}
-use Rattle.rows.specs.Row.{bytes}
 use Rattle.rows.proofs.Laws.{bytes-there, bytes_gone}
 use Rattle.fields.proofs.Laws.{is-there, is_gone}
 use Rattle.rows.proofs.digits.Goals as goal

@@ -1,6 +1,6 @@
 -- `tape::fill`. The loop's invariant: the tape that is wanted is what is owed from here on (`Going`, in Filling.antt), and its length was
 -- kept. With each term reading goes on, and with each that is closed the innermost cell falls. Assumes nothing.
-use Prim.Native.Nat.{◌+◌, ◌-◌, ◌*◌}
+use Prim.Native.Nat.{◌+◌, ◌*◌}
 use native.Mathlib.Omega.{arith}
 use mathlib.Core.Path.{◌∙◌}
 use Rattle.tape.proofs.Filling as laws

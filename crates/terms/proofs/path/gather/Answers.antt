@@ -2,7 +2,6 @@
 use borrow.Author.Rules.{rules}
 use lib.Seq.{take_all}
 use lib.ListN.{length}
-use Prim.Native.Nat.{◌-◌}
 use native.Mathlib.Omega.{arith}
 use mathlib.Core.Path.{◌≡◌, refl, sym, ◌∙◌}
 use Rattle.terms.proofs.Segments.{path_length, path_at, put-more}

@@ -1,7 +1,6 @@
 -- The readers meet their contracts, within their cycle. Assumes nothing.
-use Prim.Native.Nat.{ℕ, ◌+◌, ◌-◌, ◌≤◌, ◌<◌}
 use native.Mathlib.Omega.{arith}
-use mathlib.Core.Path.{◌∙◌, sym, ◌≡◌, ap}
+use mathlib.Core.Path.{◌∙◌, sym, ap}
 use Rattle.reading.proofs.Asked.{asks_texts}
 use Rattle.terms.proofs.Laws as laws
 use Rattle.reading.proofs.Families as fam
@@ -10,11 +9,7 @@ use Rattle.terms.proofs.Children as one
 use Rattle.fields.proofs.Laws.{is_whole}
 use Rattle.fields.proofs.Inverse.{is_below}
 use native.Mathlib.Nat.{sub-zero, max-eq_left}
-use lib.ListN.{length}
 use Rattle.reading.specs.Reading.{done}
-use Rattle.reading.specs.Terms as def
-use Rattle.reading.specs.Asked.{allowed_of, limit_of}
-use Rattle.terms.specs.Inner.Kids.{segment_of, kids_of}
 use Rattle.reading.proofs.Floors as floors
 use Rattle.rows.proofs.Laws.{count-is, count-there}
 use Rattle.terms.proofs.readers.+readers.Goals as goal
