@@ -9,7 +9,12 @@ use print::Out;
 use reading::{Kind, Segment};
 
 // A path's first `len` segments, joined by /. It holds sixty-four.
-pub fn path(out: &mut Out<'_>, at: usize, segments: [Segment; numbers::NESTING], len: usize) -> usize {
+pub fn path(
+    out: &mut Out<'_>,
+    at: usize,
+    segments: [Segment; numbers::NESTING],
+    len: usize,
+) -> usize {
     let n = shown(len);
     let mut put = at;
     let mut i = 0;
