@@ -5,16 +5,16 @@ use Rattle.tape.proofs.Reading as laws
 use Rattle.tape.proofs.ends.Goals as goal
 
 pub returns-then-end-b : goal.returns-then-end-b
-returns-then-end-b c = record { answer = laws.ended_trailing _ _ _ _ c.if-end-b.true; tape = refl }
+returns-then-end-b c = record { answer = laws.ended_trailing _ _ _ _ (omega arith); tape = refl }
 
 pub overflow_mul-begun : goal.overflow_mul-begun
 overflow_mul-begun c = omega (arith, laws.few c.requires)
 
 pub returns-then-tape-begun : goal.returns-then-tape-begun
-returns-then-tape-begun c = record { answer = laws.ended-room _ _ _ _ c.if-end-b.false (omega (arith, c.if-tape-begun.true)); tape = refl }
+returns-then-tape-begun c = record { answer = laws.ended-room _ _ _ _ (omega arith) (omega (arith, c.if-tape-begun.true)); tape = refl }
 
 pub fill-requires : goal.fill-requires
 fill-requires c = laws.good c.requires c.if-tape-begun.false
 
 pub returns : goal.returns
-returns c = record { answer = laws.ended-done _ _ _ _ c.if-end-b.false c.if-tape-begun.false; tape = c.fill.ensures }
+returns c = record { answer = laws.ended-done _ _ _ _ (omega arith) c.if-tape-begun.false; tape = c.fill.ensures }
