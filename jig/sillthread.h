@@ -2,10 +2,10 @@
 
 /* Sillthread for C: a reader and a writer of Erlang terms that keep nothing and take no memory of their own. The file NOTICE travels with the library.
  *
- * The library is target/staticlib/libjig.a, made by `jig/library`, for x86-64; `./firmware` makes it for Cortex-M3, Cortex-M4 and 32-bit RISC-V. It
- * calls nothing but memcpy and memset, on Arm by the names __aeabi_memcpy, __aeabi_memcpy8, __aeabi_memclr and __aeabi_memclr8. Each function is proved to
- * answer what its call beneath answers (crates/jig_c over crates/jig), for every input; none can fail to return, and none looks at or writes to anything
- * but what it is lent.
+ * The library is target/staticlib/libjig.a, made by `jig/library`, for x86-64; `./firmware` makes it for Cortex-M3, Cortex-M4 and 32-bit RISC-V, with the
+ * older kit 5b. It calls nothing but memcpy and memset, on Arm by the names __aeabi_memcpy, __aeabi_memcpy8, __aeabi_memclr and __aeabi_memclr8. Each
+ * function is proved to answer what its call beneath answers (crates/jig_c over crates/jig), for every input; none can fail to return, and none looks at
+ * or writes to anything but what it is lent.
  *
  * What the caller owes, and no proof can see:
  * - The same interface. Compare sill_interface() with SILL_INTERFACE before any other call: this page and the library may be of different days.
