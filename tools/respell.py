@@ -4,10 +4,10 @@
 import glob
 import os
 import re
-import sys
+import subprocess
 
 TOP = os.path.dirname(os.path.dirname(os.path.abspath(__file__)))
-KIT = os.path.dirname(sys.argv[1]) if len(sys.argv) > 1 else "/opt/rattle"
+KIT = os.path.dirname(subprocess.run(["rt", "doc"], capture_output=True, text=True, check=True).stdout.strip())
 TOKEN = re.compile(r"[^\s(){}\[\],;.\"`⌜⌝«»]+")
 DECLARED = re.compile(r"^(\s*)(?:unfoldable |abbrev )?(?:pub )?(?:unfoldable |abbrev )?(data |record |ruleset )?([^\s:(){},;.=|]+)((?: [^\s:(){},;.=|]+)*)\s*(?:[({].*)?:\s")
 MADE = re.compile(r"/proofs/(?:.*/)?(?:Proof|Answers|Invariants)\.antt$|/proofs/\+?[a-z][^/]*/")
@@ -96,6 +96,3 @@ for path in texts():
         with open(path, "w", encoding="utf-8") as f:
             f.write(new)
 print(f"respell: {len(turned)} names, {changed} files")
-if "--list" in sys.argv:
-    for a, b in sorted(turned.items()):
-        print(a, b)
