@@ -17,7 +17,7 @@ pub const LONGEST: usize = 131142;
 // The most bytes of a request.
 const BYTES: usize = 65536;
 
-#[derive(Drop)]
+#[derive(Clone, Copy)]
 pub enum Asked {
     Term,
     Utf8,
@@ -44,7 +44,7 @@ pub enum Asked {
 
 // A request. Its numbers are 0 where it has none; of a row it has how many there are. The word that spells bytes begins at `rest`, which is 0
 // where it has none, and spells `len` of them.
-#[derive(Drop)]
+#[derive(Clone, Copy)]
 pub struct Line {
     pub asked: Asked,
     pub first: usize,
@@ -56,7 +56,7 @@ pub struct Line {
 }
 
 // What an answer is made over besides the line's own bytes: the names, the words of a tape, both, a row and lent bytes, or nothing.
-#[derive(Drop)]
+#[derive(Clone, Copy)]
 pub enum Over {
     Names,
     Cells,

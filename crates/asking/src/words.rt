@@ -2,21 +2,21 @@
 ghost use Rattle.std.specs.Prelude.{◌≤◌, ◌+◌, ◌*◌, length};
 
 // A number that fits, or a word that is none.
-#[derive(Drop)]
+#[derive(Clone, Copy)]
 pub(crate) enum Number {
     Is(usize),
     Not,
 }
 
 // The same of numbers that may have a sign.
-#[derive(Drop)]
+#[derive(Clone, Copy)]
 pub(crate) enum Integer {
     Is(i64),
     Not,
 }
 
 // A number of a line, and where what follows the space behind it begins: 0 where a line has no such number there.
-#[derive(Drop)]
+#[derive(Clone, Copy)]
 pub(crate) struct Taken {
     pub value: usize,
     pub next: usize,

@@ -24,7 +24,7 @@ pub struct Cache {
 }
 
 // A name's place in the store and its length, or a refusal's number.
-#[derive(Drop)]
+#[derive(Clone, Copy)]
 pub enum Got {
     Name(usize, usize),
     No(u64),

@@ -13,13 +13,13 @@ ghost use Rattle.fields.specs.Be.{be_at, signed};
 ghost use Rattle.fields.specs.Field.{holds, field_at, integer_at, number_at};
 ghost use Rattle.fields.specs.Inner.Field.{known};
 
-#[derive(Drop)]
+#[derive(Clone, Copy)]
 pub enum Field {
     Is(u64),
     Eof,
 }
 
-#[derive(Drop)]
+#[derive(Clone, Copy)]
 pub enum Integer {
     Is(i64),
     Eof,

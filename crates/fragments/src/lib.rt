@@ -20,7 +20,7 @@ const DIST_FRAG_CONT: u64 = 70;
 
 // What the first fragment answers: the number (0 is Done), its extra, where the rest begins, the message's sequence number, the
 // fragment's own number, and the count of names in its header. A refusal has 0 in all but number and extra.
-#[derive(Drop)]
+#[derive(Clone, Copy)]
 pub struct FirstFragment {
     pub number: u64,
     pub extra: u64,
@@ -31,7 +31,7 @@ pub struct FirstFragment {
 }
 
 // The same of a later fragment, which has no count.
-#[derive(Drop)]
+#[derive(Clone, Copy)]
 pub struct NextFragment {
     pub number: u64,
     pub extra: u64,
@@ -41,7 +41,7 @@ pub struct NextFragment {
 }
 
 // The two 8-byte numbers, sequence and fragment, or a refusal: its number and its extra.
-#[derive(Drop)]
+#[derive(Clone, Copy)]
 enum Opening {
     Numbers(u64, u64),
     No(u64, u64),

@@ -18,7 +18,7 @@ use cache::{Cache, SLOT_BYTES, STORE_BYTES};
 use references::{FLAGS, Opening, Reference};
 
 // What a header answers: the number (0 is Done), where the rest begins (0 when refused), the extra, and the cache's record now.
-#[derive(Drop)]
+#[derive(Clone, Copy)]
 pub struct HeaderRead {
     pub number: u64,
     pub rest: usize,

@@ -18,14 +18,14 @@ use fields::Field;
 use rows::{Counted, Row};
 
 // The tag of a term and what its row says. The tag is 0 where no term was reached.
-#[derive(Drop)]
+#[derive(Clone, Copy)]
 pub struct Headed {
     pub tag: u8,
     pub value: Value,
 }
 
 // What a row says, by the row. A place is an offset into the input, and a length counts bytes.
-#[derive(Drop)]
+#[derive(Clone, Copy)]
 pub enum Value {
     // tags 97 and 98
     Integer(i64),

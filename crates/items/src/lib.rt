@@ -13,13 +13,12 @@ use print::Out;
 // The item of the term at a place. What its children are, their own items say.
 pub fn item(b: &[u8], place: usize, out: &mut Out<'_>, at: usize) -> usize {
     let h = heads::head(b, place);
-    let tag = h.tag;
     let w = headwords::words(h);
     if w[0] != 0 {
         return print::field(out, at, b"refused:", w[0]);
     }
-    let put = begun(tag, &w, out, at);
-    rest(tag, &w, b, out, put)
+    let put = begun(h.tag, &w, out, at);
+    rest(h.tag, &w, b, out, put)
 }
 
 // An item up to where bytes or bits follow.
@@ -112,12 +111,11 @@ fn function(w: &[u64], b: &[u8], out: &mut Out<'_>, at: usize) -> usize {
 // All that the head at a place answers, and the part that belongs to it.
 pub fn head(b: &[u8], place: usize, out: &mut Out<'_>, at: usize) -> usize {
     let h = heads::head(b, place);
-    let tag = h.tag;
     let w = headwords::words(h);
     if w[0] != 0 {
         return print::form(out, at, b"answer=#0 tag=#1 offset=#2 extra=#3", &w);
     }
-    let put = fields_of(tag, &w, out, at);
+    let put = fields_of(h.tag, &w, out, at);
     let led = print::text(out, put, b" part=");
     print::word(out, led, heads::part(b, place))
 }

@@ -9,7 +9,7 @@ ghost use Rattle.std.specs.Prelude.{◌≡◌};
 ghost use Rattle.layouts.specs.Inner.Shape.{ends, inner, shape_at, short_at};
 
 // The first child's place, or the end of a term without children; how many children; the bytes behind them.
-#[derive(Drop)]
+#[derive(Clone, Copy)]
 pub struct Shape {
     pub from: usize,
     pub kids: usize,

@@ -103,7 +103,7 @@ fn fill(stdin: Stdin, text: &mut [u8], kept: usize, out: &mut Out<'_>) -> usize
 }
 
 // How many bytes were read, and whether reading failed.
-#[derive(Drop)]
+#[derive(Clone, Copy)]
 struct Got {
     count: usize,
     failed: bool,

@@ -19,7 +19,7 @@ use reading::{Answer, Cause};
 use references::Opening;
 
 // What a message answers: what reading its term does, and the cache's record now.
-#[derive(Drop)]
+#[derive(Clone, Copy)]
 pub struct MessageRead {
     pub answer: Answer,
     pub cache: Cache,

@@ -9,7 +9,7 @@ use cache::{Cache, Got};
 use print::Out;
 
 // Where an answer ends, and the names then.
-#[derive(Drop)]
+#[derive(Clone, Copy)]
 pub struct Reached {
     pub at: usize,
     pub names: Cache,

@@ -20,7 +20,7 @@ use cache::{Cache, Got, STORE_BYTES};
 use references::FLAGS;
 
 // The position that an atom of tag 82 has, or a refusal's number.
-#[derive(Drop)]
+#[derive(Clone, Copy)]
 pub enum Position {
     Is(u8),
     No(u64),

@@ -15,7 +15,7 @@ use rows::Row;
 
 // How a header begins: how many references it has, whether a length has two bytes, and where the first reference stands; or a refusal's
 // number and extra.
-#[derive(Drop)]
+#[derive(Clone, Copy)]
 pub enum Opening {
     At(usize, bool, usize),
     No(u64, u64),
@@ -23,7 +23,7 @@ pub enum Opening {
 
 // A reference of a header to a name: an old one's slot; a new one's slot, and its name's place in the header and its length; or a
 // refusal's number and extra.
-#[derive(Drop)]
+#[derive(Clone, Copy)]
 pub enum Reference {
     Old(u8),
     New(u8, usize, usize),

@@ -13,14 +13,14 @@ ghost use Rattle.rows.specs.Layout as layout;
 use fields::Field;
 
 // The place behind what was read, or a refusal: its number and its extra.
-#[derive(Drop)]
+#[derive(Clone, Copy)]
 pub enum Row {
     To(usize),
     No(u64, u64),
 }
 
 // A count within its cap, or the number of its refusal.
-#[derive(Drop)]
+#[derive(Clone, Copy)]
 pub enum Counted {
     Is(u64),
     No(u64),

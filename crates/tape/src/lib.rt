@@ -76,7 +76,7 @@ pub fn behind(b: &[u8], start: usize, asked: [usize; 6], tape: &mut [u32]) -> An
 }
 
 // What becomes of a term that was read: its cells are written, or it is refused, why, where and with which extra.
-#[derive(Drop)]
+#[derive(Clone, Copy)]
 enum Ended {
     Done,
     No(Cause, usize, u64),

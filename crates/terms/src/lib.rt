@@ -21,7 +21,7 @@ ghost use Rattle.reading.specs.Asked.{allowed_of, limit_of};
 use reading::{Answer, Cause, Start};
 
 // What children are of: the loop over them tells by it which segment a child has.
-#[derive(Drop)]
+#[derive(Clone, Copy)]
 enum Family {
     Tuple,
     List,
@@ -30,7 +30,7 @@ enum Family {
 }
 
 // What a row requires of a child: an atom, an integer from 0 to 255, one of 0 or more, a pid.
-#[derive(Drop)]
+#[derive(Clone, Copy)]
 enum Needed {
     Atom,
     Arity,

@@ -15,7 +15,7 @@ ghost use Rattle.writer.specs.Write.{write_over};
 ghost use Rattle.writer.specs.Inner.Put.{Wrote, NumberFits, TextFits, HeadFits, LeafFits, ParentFits, Fits};
 
 // What a write answers: the number (0 is Done), how many bytes were written (0 when refused), and the extra.
-#[derive(Drop)]
+#[derive(Clone, Copy)]
 pub struct Written {
     pub number: u64,
     pub len: usize,

@@ -1,4 +1,4 @@
--- The commonest rows, found the short way: `Short-row` (proofs/Shorts.antt) says that the row ends there. `p` is the place of the tag.
+-- The commonest rows, found the short way: `short_row` (proofs/Shorts.antt) says that the row ends there. `p` is the place of the tag.
 use Rattle.std.specs.Prelude.{ℕ, zero, suc, ◌+◌, List, Bool, true, cond, ◌&&◌, eqb, leb, ltb, length, get_or}
 use Rattle.fields.specs.Field.{holds, number_at}
 
