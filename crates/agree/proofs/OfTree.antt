@@ -135,15 +135,7 @@ module _ (b : List ℕ) where
         is = node-is b c true (omega (arith, s.inside)) (is-atom c i e) ∙ rw e (leaf-to b tag c r) ∙ f;
         ends = omega (arith, n.ends, length-append l []);
       }
-  atom c (layout.small_tuple _ _) i s = elim i [ ]
-  atom c (layout.large_tuple _ _ _) i s = elim i [ ]
-  atom c (layout.list _ _ _ _) i s = elim i [ ]
-  atom c (layout.map _ _ _ _) i s = elim i [ ]
-  atom c (layout.pid _ _ _) i s = elim i [ ]
-  atom c (layout.reference _ _ _ _) i s = elim i [ ]
-  atom c (layout.port _ _ _) i s = elim i [ ]
-  atom c (layout.export _ _ _ _ _ _) i s = elim i [ ]
-  atom c (layout.function f n _ _ _ _ _ _ _ _ _ _ _) i s = elim i [ ]
+  atom c other i s = elim i [ ]
 
   -- an atom that stands at c, and bytes behind it
   record Behind (c : ℕ) (x : Tree) (back : List ℕ) : Type 0 where

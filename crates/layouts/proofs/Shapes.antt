@@ -147,15 +147,7 @@ pub record OneLeaf (ts : Forest) : Type 0 where
 -- an atom has no children
 atom-leaf : {allow : Allowed} {x : Tree} → Laid allow x → IsAtom (tag_of x) → OneLeaf (more x none)
 atom-leaf (layout.row {tag} {l} q) i = record { tag = tag; front = l; is = refl }
-atom-leaf {allow = allow} (layout.small_tuple {n = n} {ts = ts} _ _) i = elim i [ ]
-atom-leaf {allow = allow} (layout.large_tuple {n = n} {ts = ts} _ _ _) i = elim i [ ]
-atom-leaf {allow = allow} (layout.list {n = n} {m = m} {ts = ts} _ _ _ _) i = elim i [ ]
-atom-leaf {allow = allow} (layout.map {n = n} {m = m} {ts = ts} _ _ _ _) i = elim i [ ]
-atom-leaf {allow = allow} (layout.pid {k = k} _ _ _) i = elim i [ ]
-atom-leaf {allow = allow} (layout.reference {n = n} {m = m} {k = k} _ _ _ _) i = elim i [ ]
-atom-leaf {allow = allow} (layout.port {k = k} _ _ _) i = elim i [ ]
-atom-leaf {allow = allow} (layout.export {y = y} {z = z} _ _ _ _ _ _) i = elim i [ ]
-atom-leaf {allow = allow} (layout.function f n {y = y} {z = z} {p = p} {ts = ts} _ _ _ _ _ _ _ _ _ _ _) i = elim i [ ]
+atom-leaf other i = elim i [ ]
 
 -- bytes behind the children stand only behind one atom, which has no children
 pub one-leaf : {allow : Allowed} {tag : ℕ} {front : List ℕ} {ts : Forest} {back : List ℕ} → Laid allow (node tag front ts back) → ¬ (back ≡ []) → OneLeaf ts

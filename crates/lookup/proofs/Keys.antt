@@ -74,55 +74,14 @@ module _ {b : List ℕ} {p : ℕ} where
 
   short-at : {e : ℕ} {t : Tree} → Laid plain t → Only 119 (tag_of t) → e ≡ p + length (bytes t) → Stands b p (bytes t) → Named b (p + 2) e t
   unfolding equal
-  short-at {e = e} (row {l = l} (small_integer _)) x22 f x = elim x22 [ ]
-  short-at {e = e} (row {l = l} (integer _)) x23 f x = elim x23 [ ]
-  short-at {e = e} (row {l = l} (Rattle.layouts.specs.Layout.number_text _ _ _)) x30 f x = elim x30 [ ]
-  short-at {e = e} (row {l = l} (Rattle.layouts.specs.Layout.double _)) x25 f x = elim x25 [ ]
-  short-at {e = e} (row (old_atom n _ _ _)) x29 f x = elim x29 [ ]
-  short-at {e = e} (row (atom n _ _ _)) x30 f x = elim x30 [ ]
-  short-at {e = e} (row Rattle.layouts.specs.Layout.nil) x25 f x = elim x25 [ ]
-  short-at {e = e} (row (Rattle.layouts.specs.Layout.string n s _)) x29 f x = elim x29 [ ]
-  short-at {e = e} (row (Rattle.layouts.specs.Layout.binary n s _ _)) x33 f x = elim x33 [ ]
-  short-at {e = e} (row (Rattle.layouts.specs.Layout.bit_string n k s _ _ _)) x37 f x = elim x37 [ ]
-  short-at {e = e} (row (Rattle.layouts.specs.Layout.small_big n sign s _)) x32 f x = elim x32 [ ]
-  short-at {e = e} (row (Rattle.layouts.specs.Layout.large_big n sign s _)) x33 f x = elim x33 [ ]
-  short-at {e = e} (row (Rattle.layouts.specs.Layout.position {k = k} _ _)) x37 f x = elim x37 [ ]
-  short-at {e = e} (Rattle.layouts.specs.Layout.small_tuple {n = n} {ts = ts} _ _) x13 f x = elim x13 [ ]
-  short-at {e = e} (Rattle.layouts.specs.Layout.large_tuple {n = n} {ts = ts} _ _ _) x16 f x = elim x16 [ ]
-  short-at {e = e} (Rattle.layouts.specs.Layout.list {n = n} {m = m} {ts = ts} _ _ _ _) x19 f x = elim x19 [ ]
-  short-at {e = e} (Rattle.layouts.specs.Layout.map {n = n} {m = m} {ts = ts} _ _ _ _) x20 f x = elim x20 [ ]
-  short-at {e = e} (Rattle.layouts.specs.Layout.pid {k = k} _ _ _) x20 f x = elim x20 [ ]
-  short-at {e = e} (Rattle.layouts.specs.Layout.reference {n = n} {m = m} {k = k} _ _ _ _) x23 f x = elim x23 [ ]
-  short-at {e = e} (Rattle.layouts.specs.Layout.port {k = k} _ _ _) x22 f x = elim x22 [ ]
-  short-at {e = e} (Rattle.layouts.specs.Layout.export {y = y} {z = z} _ _ _ _ _ _) x29 f x = elim x29 [ ]
-  short-at {e = e} (Rattle.layouts.specs.Layout.function _ n {y = y} {z = z} {ts = ts} _ _ _ _ _ _ _ _ _ _ _) x40 f x = elim x40 [ ]
   short-at (row (small_atom n m w u)) it f x = name-at 119 1 n m w.wide (omega arith) f x (λ s. refl)
+  short-at l other f x = elim other [ ]
 
   long-at : {e : ℕ} {t : Tree} → Laid plain t → Long (tag_of t) → e ≡ p + length (bytes t) → Stands b p (bytes t) → Named b (p + 3) e t
   unfolding equal
-  long-at {e = e} (row {l = l} (small_integer _)) x22 f x = elim x22 [ ]
-  long-at {e = e} (row {l = l} (integer _)) x23 f x = elim x23 [ ]
-  long-at {e = e} (row {l = l} (Rattle.layouts.specs.Layout.number_text _ _ _)) x30 f x = elim x30 [ ]
-  long-at {e = e} (row {l = l} (Rattle.layouts.specs.Layout.double _)) x25 f x = elim x25 [ ]
-  long-at {e = e} (row (small_atom n _ _ _)) x29 f x = elim x29 [ ]
-  long-at {e = e} (row Rattle.layouts.specs.Layout.nil) x24 f x = elim x24 [ ]
-  long-at {e = e} (row (Rattle.layouts.specs.Layout.string n s _)) x28 f x = elim x28 [ ]
-  long-at {e = e} (row (Rattle.layouts.specs.Layout.binary n s _ _)) x32 f x = elim x32 [ ]
-  long-at {e = e} (row (Rattle.layouts.specs.Layout.bit_string n k s _ _ _)) x36 f x = elim x36 [ ]
-  long-at {e = e} (row (Rattle.layouts.specs.Layout.small_big n sign s _)) x31 f x = elim x31 [ ]
-  long-at {e = e} (row (Rattle.layouts.specs.Layout.large_big n sign s _)) x32 f x = elim x32 [ ]
-  long-at {e = e} (row (Rattle.layouts.specs.Layout.position {k = k} _ _)) x36 f x = elim x36 [ ]
-  long-at {e = e} (Rattle.layouts.specs.Layout.small_tuple {n = n} {ts = ts} _ _) x13 f x = elim x13 [ ]
-  long-at {e = e} (Rattle.layouts.specs.Layout.large_tuple {n = n} {ts = ts} _ _ _) x16 f x = elim x16 [ ]
-  long-at {e = e} (Rattle.layouts.specs.Layout.list {n = n} {m = m} {ts = ts} _ _ _ _) x19 f x = elim x19 [ ]
-  long-at {e = e} (Rattle.layouts.specs.Layout.map {n = n} {m = m} {ts = ts} _ _ _ _) x20 f x = elim x20 [ ]
-  long-at {e = e} (Rattle.layouts.specs.Layout.pid {k = k} _ _ _) x20 f x = elim x20 [ ]
-  long-at {e = e} (Rattle.layouts.specs.Layout.reference {n = n} {m = m} {k = k} _ _ _ _) x23 f x = elim x23 [ ]
-  long-at {e = e} (Rattle.layouts.specs.Layout.port {k = k} _ _ _) x22 f x = elim x22 [ ]
-  long-at {e = e} (Rattle.layouts.specs.Layout.export {y = y} {z = z} _ _ _ _ _ _) x29 f x = elim x29 [ ]
-  long-at {e = e} (Rattle.layouts.specs.Layout.function _ n {y = y} {z = z} {ts = ts} _ _ _ _ _ _ _ _ _ _ _) x40 f x = elim x40 [ ]
   long-at (row (old_atom n m w u)) old f x = name-at 100 2 n m w.wide (omega arith) f x (λ s. refl)
   long-at (row (atom n m w u)) new f x = name-at 118 2 n m w.wide (omega arith) f x (λ s. refl)
+  long-at l other f x = elim other [ ]
 
   -- the number behind the tag is the front's
   number_at : (tag k : ℕ) (l : List ℕ) → length l ≡ k → Stands b p (bytes (leaf tag l)) → (p + 1 + k ≤ length b) × (be_at k b (p + 1) ≡ be l)
@@ -133,60 +92,18 @@ module _ {b : List ℕ} {p : ℕ} where
 
   byte_at : {t : Tree} → Laid plain t → Only 97 (tag_of t) → Stands b p (bytes t) → (p + 1 < length b) × ((z : ℤ) → same_integer (pos (get_or b (p + 1) 0)) z ≡ equal (number z) t)
   unfolding equal
-  byte_at (row {l = l} (integer _)) x17 x = elim x17 [ ]
-  byte_at (row {l = l} (Rattle.layouts.specs.Layout.number_text _ _ _)) x24 x = elim x24 [ ]
-  byte_at (row {l = l} (Rattle.layouts.specs.Layout.double _)) x19 x = elim x19 [ ]
-  byte_at (row (old_atom n _ _ _)) x23 x = elim x23 [ ]
-  byte_at (row (atom n _ _ _)) x24 x = elim x24 [ ]
-  byte_at (row (small_atom n _ _ _)) x25 x = elim x25 [ ]
-  byte_at (row Rattle.layouts.specs.Layout.nil) x20 x = elim x20 [ ]
-  byte_at (row (Rattle.layouts.specs.Layout.string n s _)) x24 x = elim x24 [ ]
-  byte_at (row (Rattle.layouts.specs.Layout.binary n s _ _)) x28 x = elim x28 [ ]
-  byte_at (row (Rattle.layouts.specs.Layout.bit_string n k s _ _ _)) x32 x = elim x32 [ ]
-  byte_at (row (Rattle.layouts.specs.Layout.small_big n sign s _)) x27 x = elim x27 [ ]
-  byte_at (row (Rattle.layouts.specs.Layout.large_big n sign s _)) x28 x = elim x28 [ ]
-  byte_at (row (Rattle.layouts.specs.Layout.position {k = k} _ _)) x32 x = elim x32 [ ]
-  byte_at (Rattle.layouts.specs.Layout.small_tuple {n = n} {ts = ts} _ _) x11 x = elim x11 [ ]
-  byte_at (Rattle.layouts.specs.Layout.large_tuple {n = n} {ts = ts} _ _ _) x14 x = elim x14 [ ]
-  byte_at (Rattle.layouts.specs.Layout.list {n = n} {m = m} {ts = ts} _ _ _ _) x17 x = elim x17 [ ]
-  byte_at (Rattle.layouts.specs.Layout.map {n = n} {m = m} {ts = ts} _ _ _ _) x18 x = elim x18 [ ]
-  byte_at (Rattle.layouts.specs.Layout.pid {k = k} _ _ _) x18 x = elim x18 [ ]
-  byte_at (Rattle.layouts.specs.Layout.reference {n = n} {m = m} {k = k} _ _ _ _) x21 x = elim x21 [ ]
-  byte_at (Rattle.layouts.specs.Layout.port {k = k} _ _ _) x20 x = elim x20 [ ]
-  byte_at (Rattle.layouts.specs.Layout.export {y = y} {z = z} _ _ _ _ _ _) x27 x = elim x27 [ ]
-  byte_at (Rattle.layouts.specs.Layout.function f n {y = y} {z = z} {ts = ts} _ _ _ _ _ _ _ _ _ _ _) x38 x = elim x38 [ ]
   byte_at (row (small_integer {l} w)) it x =
       let (h, g) = number_at 97 1 l w x in
       let e : get_or b (p + 1) 0 ≡ be l = sym (be-one b (p + 1) (omega arith)) ∙ g in
       (omega arith, λ z. rw e)
+  byte_at l other x = elim other [ ]
 
   word_at : {t : Tree} → Laid plain t → Only 98 (tag_of t) → Stands b p (bytes t) → (integer.Is (signed (be (front_of t))) ≡ integer_at b (p + 1)) × ((z : ℤ) → same_integer (signed (be (front_of t))) z ≡ equal (number z) t)
   unfolding equal
-  word_at (row {l = l} (small_integer _)) x17 x = elim x17 [ ]
-  word_at (row {l = l} (Rattle.layouts.specs.Layout.number_text _ _ _)) x24 x = elim x24 [ ]
-  word_at (row {l = l} (Rattle.layouts.specs.Layout.double _)) x19 x = elim x19 [ ]
-  word_at (row (old_atom n _ _ _)) x23 x = elim x23 [ ]
-  word_at (row (atom n _ _ _)) x24 x = elim x24 [ ]
-  word_at (row (small_atom n _ _ _)) x25 x = elim x25 [ ]
-  word_at (row Rattle.layouts.specs.Layout.nil) x20 x = elim x20 [ ]
-  word_at (row (Rattle.layouts.specs.Layout.string n s _)) x24 x = elim x24 [ ]
-  word_at (row (Rattle.layouts.specs.Layout.binary n s _ _)) x28 x = elim x28 [ ]
-  word_at (row (Rattle.layouts.specs.Layout.bit_string n k s _ _ _)) x32 x = elim x32 [ ]
-  word_at (row (Rattle.layouts.specs.Layout.small_big n sign s _)) x27 x = elim x27 [ ]
-  word_at (row (Rattle.layouts.specs.Layout.large_big n sign s _)) x28 x = elim x28 [ ]
-  word_at (row (Rattle.layouts.specs.Layout.position {k = k} _ _)) x32 x = elim x32 [ ]
-  word_at (Rattle.layouts.specs.Layout.small_tuple {n = n} {ts = ts} _ _) x11 x = elim x11 [ ]
-  word_at (Rattle.layouts.specs.Layout.large_tuple {n = n} {ts = ts} _ _ _) x14 x = elim x14 [ ]
-  word_at (Rattle.layouts.specs.Layout.list {n = n} {m = m} {ts = ts} _ _ _ _) x17 x = elim x17 [ ]
-  word_at (Rattle.layouts.specs.Layout.map {n = n} {m = m} {ts = ts} _ _ _ _) x18 x = elim x18 [ ]
-  word_at (Rattle.layouts.specs.Layout.pid {k = k} _ _ _) x18 x = elim x18 [ ]
-  word_at (Rattle.layouts.specs.Layout.reference {n = n} {m = m} {k = k} _ _ _ _) x21 x = elim x21 [ ]
-  word_at (Rattle.layouts.specs.Layout.port {k = k} _ _ _) x20 x = elim x20 [ ]
-  word_at (Rattle.layouts.specs.Layout.export {y = y} {z = z} _ _ _ _ _ _) x27 x = elim x27 [ ]
-  word_at (Rattle.layouts.specs.Layout.function f n {y = y} {z = z} {ts = ts} _ _ _ _ _ _ _ _ _ _ _) x38 x = elim x38 [ ]
   word_at (row (integer {l} w)) it x =
       let (h, g) = number_at 98 4 l w x in
       (integer-is b (p + 1) (is-there 4 b (p + 1) h) (ap signed (sym g)), λ z. refl)
+  word_at l other x = elim other [ ]
 
 -- the key t at p, by its first byte
 module _ {b : List ℕ} {p : ℕ} {t : Tree} (i : Term b p t) where
