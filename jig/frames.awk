@@ -32,7 +32,7 @@ BEGIN {
 # The source: each reader, and what stands in it.
 FILENAME ~ /\.rt$/ {
     sub(/\/\/.*/, "")
-    if (match($0, /^(pub\(crate\) )?fn [a-z_]+\(/)) {
+    if (match($0, /^ *(pub\(crate\) )?fn [a-z_]+\(/)) {
         reader = substr($0, 1, RLENGTH - 1)
         sub(/.* /, "", reader)
         source[reader] = ""
@@ -159,12 +159,13 @@ function named(args) { if (!match(args, /<.*>$/)) wrong("leads to no name"); ret
 
 # which readers lead to which by calls that don't fall
 function same_level(a, b, c) {
-    for (a in source) for (b in source) if (source[a] ~ "[^a-z_.:]" b "\\(" && !((a, b) in fall)) same[a, b] = 1
+    for (a in source) for (b in source) if (source[a] ~ "self\\." b "\\(" && !((a, b) in fall)) same[a, b] = 1
     for (b in source) for (a in source) for (c in source) if ((a, b) in same && (b, c) in same) same[a, c] = 1
 }
 function falls(a, b) {
-    if (!sub(/^terms::readers::/, "", a) || !sub(/^terms::readers::/, "", b)) return 0
-    if (!(a in source) || !(b in source)) fail("terms::readers: no such reader in the source: " a ", " b)
+    if (!sub(/^terms::Reader::/, "", a) || !sub(/^terms::Reader::/, "", b)) return 0
+    # what isn't in readers.rt is a step, which calls no reader
+    if (!(a in source) || !(b in source)) return 0
     return !((a, b) in same)
 }
 # the longest way from a function on with k levels left

@@ -10,7 +10,7 @@ use borrow.Author.Tests.{ltb-true, ltb-false}
 use Rattle.numbers.specs.Caps as cap
 use Rattle.numbers.specs.Allowed.{Allowed}
 use Rattle.numbers.specs.Numbers as number
-use Rattle.reading.specs.declared.Answer.{Answer}
+use Rattle.reading.specs.Told.{Told}
 use Rattle.reading.specs.declared.Segment.{Segment}
 use Rattle.reading.specs.Reading.{State, Result, done, no, reach, refused}
 use Rattle.reading.specs.Terms.{term}
@@ -23,7 +23,7 @@ use Rattle.accepts.proofs.Sound.{sound}
 use Rattle.accepts.proofs.Complete.{complete}
 
 -- the term that was read, by the layouts
-pub record ReadTree (allow : Allowed) (b : List ℕ) (at limit : ℕ) (a : Answer) : Type 0 where
+pub record ReadTree (allow : Allowed) (b : List ℕ) (at limit : ℕ) (a : Told) : Type 0 where
   pub tree : Tree
   pub laid : Laid allow tree
   pub shallow : depth tree ≤ limit

@@ -10,19 +10,16 @@ use lib.ListN.{length, get_or, take, drop, length-append}
 use borrow.Author.Tests.{leb-true, eqb-true}
 use Rattle.fields.specs.Be.{be}
 use Rattle.fields.specs.Field.{field_at, number_at}
-use Rattle.fields.specs.declared.Field.{Field}
-use Rattle.fields.specs.declared.Field.TheVariants as field
+use Rattle.std.specs.Prelude.{Option, Some, None, Ok, Err}
 use Rattle.fields.proofs.Laws.{is_whole, number_of}
 use Rattle.numbers.specs.Caps as cap
 use Rattle.numbers.specs.Allowed.{Allowed}
-use Rattle.rows.specs.Row.{count_at}
+use Rattle.numbers.specs.declared.Refusal.{Refusal}
+use Rattle.rows.specs.Row.{Row, count_at}
 use Rattle.rows.specs.Row as row
-use Rattle.rows.specs.declared.Counted.{Counted as Capped}
-use Rattle.rows.specs.declared.Counted.TheVariants as count
+use Rattle.std.specs.Prelude as std
 use Rattle.rows.proofs.Laws.{count-is}
 use Rattle.rows.specs.Layout as rows
-use Rattle.rows.specs.declared.Row.{Row}
-use Rattle.rows.specs.declared.Row.TheVariants.{To, No}
 use Rattle.rows.proofs.Ends.{bytes-to, bytes-within}
 use Rattle.reading.specs.declared.Kind.{Kind}
 use Rattle.reading.specs.declared.Kind.TheVariants as kind
@@ -90,10 +87,10 @@ judged : {A : Type 0} (read : State → Result) (fits : ℕ → Bool) (s : State
 unfolding required
 judged read fits s h = through (read s) _ (λ u d. picked (fits s.at) _ _ (λ k e. h (d ∙ e) k) (λ e. never e))
 
-fielded : {A : Type 0} (r : Row) (s : State) {t : State} → (r ≡ To t.at → t.begun ≡ s.begun → A) → fields r s ≡ done t → A
+fielded : {A : Type 0} (r : Row) (s : State) {t : State} → (r ≡ Ok t.at → t.begun ≡ s.begun → A) → fields r s ≡ done t → A
 unfolding fields
-fielded (To p) s {t} h e = let i : moved p s ≡ t = cc in h (ap (λ (u : State). To u.at) i) (ap (λ (u : State). u.begun) (sym i))
-fielded (No n x) s h e = never e
+fielded (Ok p) s {t} h e = let i : moved p s ≡ t = cc in h (ap (λ (u : State). Ok u.at) i) (ap (λ (u : State). u.begun) (sym i))
+fielded (Err x) s h e = never e
 
 module _ (b : List ℕ) where
   stays : (s : State) → s.at ≤ length b → Gone b s s []
@@ -125,7 +122,7 @@ module _ (b : List ℕ) where
     is : Number k part n
     gone : Gone b s (moved (s.at + k) s) part
 
-  there : (k : ℕ) (s : State) {n : ℕ} → field_at k b s.at ≡ field.Is n → Counted k n s
+  there : (k : ℕ) (s : State) {n : ℕ} → field_at k b s.at ≡ Some n → Counted k n s
   there k s i =
       let h = (is_whole k b s.at i).0 in
       let w = stand.number b s.at i in
@@ -134,17 +131,17 @@ module _ (b : List ℕ) where
   counts : {A : Type 0} (k : ℕ) (f : ℕ → State → Result) (s : State) {t : State} → ((n : ℕ) → Counted k n s → f n (moved (s.at + k) s) ≡ done t → A) → sized k b f s ≡ done t → A
   counts {A} k f s {t} h e = go (field_at k b s.at) refl
     where
-      go : (x : Field) → field_at k b s.at ≡ x → A
-      go (field.Is n) i = h n (there k s i) (sym (sized-is k b f s i) ∙ e)
-      go field.Eof i = never (sym (sized_eof k b f s i) ∙ e)
+      go : (x : Option ℕ) → field_at k b s.at ≡ x → A
+      go (Some n) i = h n (there k s i) (sym (sized-is k b f s i) ∙ e)
+      go None i = never (sym (sized_eof k b f s i) ∙ e)
 
   -- a count within its cap
   caps : {A : Type 0} (most : ℕ) (f : ℕ → State → Result) (s : State) {t : State} → ((n : ℕ) → Counted 4 n s → n ≤ most → f n (moved (s.at + 4) s) ≡ done t → A) → counted most b f s ≡ done t → A
   caps {A} most f s {t} h e = go (count_at most b s.at) refl
     where
-      go : (x : Capped) → count_at most b s.at ≡ x → A
-      go (count.Is n) i = let (j, k) = count-is most b s.at i in h n (there 4 s j) k (sym (counted_is most b f s i) ∙ e)
-      go (count.No n) i = never (sym (counted-no most b f s i) ∙ e)
+      go : (x : std.Result ℕ Refusal) → count_at most b s.at ≡ x → A
+      go (Ok n) i = let (j, k) = count-is most b s.at i in h n (there 4 s j) k (sym (counted_is most b f s i) ∙ e)
+      go (Err x) i = never (sym (counted-no most b f s i) ∙ e)
 
   -- a tree is judged by its first byte and, if it is an integer, by the number behind it
 

@@ -12,8 +12,8 @@ use Rattle.numbers.specs.Allowed.{plain}
 use Rattle.numbers.specs.Caps as cap
 use Rattle.numbers.specs.Numbers as number
 use Rattle.numbers.proofs.Laws.{none_of, arm}
-use Rattle.reading.specs.declared.Cause.TheVariants as cause
-use Rattle.rows.specs.declared.Row.{Row}
+use Rattle.numbers.specs.declared.Refusal.TheVariants as refusal
+use Rattle.rows.specs.Row.{Row}
 use Rattle.rows.proofs.Laws.{plain-leaf}
 use Rattle.reading.specs.Reading.{State, Result, reach, begin, refused, fields}
 use Rattle.reading.specs.Terms.{term, body}
@@ -66,7 +66,7 @@ module _ (b : List ℕ) (at left : ℕ) where
   unfolding term
   begun-is h = rw (lt-ltb at (length b) h)
 
-  nothing : length b ≤ at → said_by_head (head.no number.Eof at) ≡ by_tag b (get_or b at 0) at (answer (refused number.Eof (reach root)))
+  nothing : length b ≤ at → said_by_head (head.no refusal.Eof at) ≡ by_tag b (get_or b at 0) at (answer (refused number.Eof (reach root)))
   unfolding by_tag at_once atom_at answer said_by_reading
   nothing h = rw (out (eqb (get_or b at 0) 90), own_start (get_or b at 0) at)
     where
@@ -81,7 +81,7 @@ module _ (b : List ℕ) (at left : ℕ) where
       go : (x y : Bool) → ltb cap.input (length b) ≡ x → ltb at (length b) ≡ y → said_by_head (head_at b at).value ≡ as_reading b at (read_at b at limit)
       go true y e f =
           let l = ltb-true cap.input (length b) e in
-          rw (read_no plain b at limit cause.Long (starts-long limit (length b) (λ z. omega arith) k l), head-long b at l, e)
+          rw (read_no plain b at limit refusal.Long (starts-long limit (length b) (λ z. omega arith) k l), head-long b at l, e)
       go false true e f =
           let l = ltb-false cap.input (length b) e in
           let h = ltb-true at (length b) f in

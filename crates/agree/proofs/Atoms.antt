@@ -2,21 +2,20 @@
 -- behind it are refused at its start. Assumes nothing.
 use Prim.Native.Nat.{ℕ, suc, ◌+◌, ◌-◌, ◌*◌, ◌≤◌, ◌<◌}
 use native.Mathlib.Omega.{arith}
-use mathlib.Core.Path.{◌≡◌, refl, ap, ◌∙◌}
+use mathlib.Core.Path.{◌≡◌, refl, ◌∙◌}
 use mathlib.Core.List.{List}
 use mathlib.Core.Bool.{Bool, true, false, not, ◌||◌}
 use borrow.Author.Tests.{ltb-true, ltb-false, lt-ltb, le-ltb, eq-eqb}
 use lib.Dec.{eqb, ltb}
 use lib.ListN.{length, get_or}
+use Rattle.std.specs.Prelude.{Option, Some, None, Ok, Err}
 use Rattle.numbers.specs.Allowed.{plain}
-use Rattle.numbers.proofs.Laws.{listed_some}
+use Rattle.numbers.specs.declared.Refusal.TheVariants as refusal
+use Rattle.fields.specs.Be.{be_at}
 use Rattle.fields.specs.Field.{holds}
 use Rattle.fields.proofs.Laws.{there, is-there, is_gone}
-use Rattle.numbers.specs.Numbers as number
+use Rattle.rows.specs.Row.{Row}
 use Rattle.rows.specs.Layout as layout
-use Rattle.rows.specs.declared.Row.{Row}
-use Rattle.rows.specs.declared.Row.TheVariants.{To, No}
-use Rattle.rows.proofs.Ends.{near_row}
 use Rattle.reading.specs.declared.Segment.{Segment}
 use Rattle.reading.specs.Reading.{State, Result, done, no, and_then, moved, reach, begin, fields, pass}
 use Rattle.reading.specs.Terms as reading
@@ -24,38 +23,42 @@ use Rattle.reading.specs.Terms.{is_atom, required, term}
 use Rattle.reading.proofs.Families as way
 use Rattle.heads.specs.Inner.Head as head
 use Rattle.heads.specs.declared.Value.{Value}
+use Rattle.heads.specs.declared.Value.TheVariants as value
+use Rattle.heads.specs.declared.Run.{Run}
 use Rattle.agree.specs.Head.{has_atom, atom_at, at_once, own_offset}
-use Rattle.agree.specs.Inner.Refusals.{a_value, said_by_head}
-use Rattle.agree.proofs.Ways.{not_there, eof_gone, sized-missing, sized-there, sized_gone, leaf-to, leaf-no, named-atom, named-no, node_eof, node-is, AtomTag, atom_tag}
+use Rattle.agree.proofs.Ways.{not_there, eof_gone, sized-missing, sized-there, sized_gone, named-atom, named-no, node_eof, node-other, AtomTag, atom_tag}
 use Rattle.agree.proofs.Agrees.{Agrees, by, same, done-value, tag_at_once, behind_tag, sized}
 
 module _ (b : List ℕ) (at : ℕ) where
-  -- of the m bytes behind an atom that starts at c the head makes numbers: a value where they are there, and Eof at the atom where one is missing
-  record Numbers (c m : ℕ) (f : ℕ → ℕ → Value) : Type 0 where
-    there : (s n : ℕ) → s + n + m ≤ length b → said_by_head (f s n) ≡ a_value
-    gone : (s n : ℕ) → length b < s + n + m → f s n ≡ head.no number.Eof c
+  -- of the m bytes behind an atom's name the head makes a value where they are there, and none where one is missing
+  record Numbers (m : ℕ) (f : Run → Option Value) : Type 0 where
+    value : (r : Run) → r.at + r.len + m ≤ length b → Value
+    there : (r : Run) (h : r.at + r.len + m ≤ length b) → f r ≡ Some (value r h)
+    gone : (r : Run) → length b < r.at + r.len + m → f r ≡ None
 
-  pid-numbers : (c : ℕ) → Numbers c 12 (head.pid_numbers b c)
+  pid-numbers : Numbers 12 (head.pid_numbers b)
   unfolding head.pid_numbers
-  pid-numbers c = record {
-    there = λ s n h.
-        ap said_by_head (sized-there 4 b (s + n) c _ (omega arith) ∙ sized-there 4 b (s + n + 4) c _ (omega arith)
-        ∙ sized-there 4 b (s + n + 8) c _ (omega arith));
-    gone = λ s n h. sized-missing 4 b (s + n) c _ (λ i. sized-missing 4 b (s + n + 4) c _ (λ j. sized_gone 4 b (s + n + 8) c _ (omega arith)));
+  pid-numbers = record {
+    value = λ r h. _;
+    there = λ r h.
+        sized-there 4 b (r.at + r.len) _ (omega arith) ∙ sized-there 4 b (r.at + r.len + 4) _ (omega arith) ∙ sized-there 4 b (r.at + r.len + 8) _ (omega arith);
+    gone = λ r h. sized-missing 4 b (r.at + r.len) _ (λ i. sized-missing 4 b (r.at + r.len + 4) _ (λ j. sized_gone 4 b (r.at + r.len + 8) _ (omega arith)));
   }
 
-  port-numbers : (c : ℕ) → Numbers c 12 (head.port_numbers b c)
+  port-numbers : Numbers 12 (head.port_numbers b)
   unfolding head.port_numbers
-  port-numbers c = record {
-    there = λ s n h. ap said_by_head (sized-there 8 b (s + n) c _ (omega arith) ∙ sized-there 4 b (s + n + 8) c _ (omega arith));
-    gone = λ s n h. sized-missing 8 b (s + n) c _ (λ i. sized_gone 4 b (s + n + 8) c _ (omega arith));
+  port-numbers = record {
+    value = λ r h. _;
+    there = λ r h. sized-there 8 b (r.at + r.len) _ (omega arith) ∙ sized-there 4 b (r.at + r.len + 8) _ (omega arith);
+    gone = λ r h. sized-missing 8 b (r.at + r.len) _ (λ i. sized_gone 4 b (r.at + r.len + 8) _ (omega arith));
   }
 
-  reference-numbers : (c k : ℕ) → Numbers c (4 + 4 * k) (head.reference_numbers b c k)
+  reference-numbers : (k : ℕ) → Numbers (4 + 4 * k) (head.reference_numbers b k)
   unfolding head.reference_numbers
-  reference-numbers c k = record {
-    there = λ s n h. rw (sized-there 4 b (s + n) c _ (omega arith), is-there (k * 4) b (s + n + 4) (omega arith));
-    gone = λ s n h. sized-missing 4 b (s + n) c _ (λ i. rw (is_gone (k * 4) b (s + n + 4) (omega arith)));
+  reference-numbers k = record {
+    value = λ r h. value.Reference k r (be_at 4 b (r.at + r.len)) (r.at + r.len + 4);
+    there = λ r h. sized-there 4 b (r.at + r.len) _ (omega arith) ∙ rw (is-there (k * 4) b (r.at + r.len + 4) (omega arith));
+    gone = λ r h. sized-missing 4 b (r.at + r.len) _ (λ i. rw (is_gone (k * 4) b (r.at + r.len + 4) (omega arith)));
   }
 
   -- a tag that has an atom, which starts at c
@@ -81,12 +84,12 @@ module _ (b : List ℕ) (at : ℕ) where
     judged x h e = rw (a.starts, a.some, lt-ltb c (length b) h, e)
 
     -- behind the atom's name, where reading stands at e
-    behind : (u : State) (m e s n : ℕ) (f : ℕ → ℕ → Value) → u.last ≡ c → s + n ≡ e → at_once b tag at ≡ false → Numbers c m f → Agrees b at tag (pass b m (moved e u)) (f s n)
-    behind u m e s n f l q h w = go (holds m b e) refl
+    behind : (u : State) (m e : ℕ) (r : Run) (f : Run → Option Value) → u.last ≡ c → r.at + r.len ≡ e → at_once b tag at ≡ false → Numbers m f → Agrees b at tag (pass b m (moved e u)) (head.or_eof (f r) c)
+    behind u m e r f l q h w = go (holds m b e) refl
       where
-        go : (x : Bool) → holds m b e ≡ x → Agrees b at tag (pass b m (moved e u)) (f s n)
-        go true k = by (way.pass_on b m (moved e u) k) refl (done-value h (w.there s n (omega (arith, there m b e k))))
-        go false k = by (way.pass_eof b m (moved e u) k) (w.gone s n (omega (arith, not_there m b e k)) ∙ rw l) (same (moved e u) h (rw l own_atom) (omega arith))
+        go : (x : Bool) → holds m b e ≡ x → Agrees b at tag (pass b m (moved e u)) (head.or_eof (f r) c)
+        go true k = let i : r.at + r.len + m ≤ length b = omega (arith, there m b e k) in by (way.pass_on b m (moved e u) k) (rw (w.there r i)) (done-value {v = w.value r i} h)
+        go false k = by (way.pass_eof b m (moved e u) k) (rw (w.gone r (omega (arith, not_there m b e k)), ← l)) (same refusal.Eof (moved e u) h (rw l own_atom))
 
   module _ (limit left : ℕ) where
     abbrev child : State → Result
@@ -99,12 +102,12 @@ module _ (b : List ℕ) (at : ℕ) where
     child_done : (t : State) (m : ℕ) {u : State} → child t ≡ done u → is_atom b t.at ≡ true → and_then (required child (is_atom b) t) (pass b m) ≡ pass b m u
     child_done t m e i = way.then_done _ (pass b m) (way.required-good child (is_atom b) t e i)
 
-    module _ {tag : ℕ} (t : State) (m : ℕ) (f : ℕ → ℕ → Value) (a : Atomic tag t.at) (w : Numbers t.at m f) where
+    module _ {tag : ℕ} (t : State) (m : ℕ) (f : Run → Option Value) (a : Atomic tag t.at) (w : Numbers m f) where
       abbrev c : ℕ
       c = t.at
 
       abbrev Atoms : Type 0
-      Atoms = Agrees b at tag (and_then (required child (is_atom b) t) (pass b m)) (head.named (head.node b c) f)
+      Atoms = Agrees b at tag (and_then (required child (is_atom b) t) (pass b m)) (head.and_then (head.node b c) (λ r. head.or_eof (f r) c))
 
       -- the child is an atom: a row without children
       an_atom : c < length b → is_atom b c ≡ true → Atoms
@@ -125,15 +128,11 @@ module _ (b : List ℕ) (at : ℕ) where
           reads : child t ≡ fields (layout.row_at b x (c + 1)) u
           reads = way.term-body plain b limit (suc left) t u h (λ z. omega arith) refl ∙ one.body_is _ u
 
-          is_leaf : head.node b c ≡ head.row_value b x c
-          is_leaf = node-is b c true h i
-
           go : (r : Row) → layout.row_at b x (c + 1) ≡ r → Atoms
-          go (To e) q =
-              let n = one.name (c + 1) e q in
-              by (child_done t m (reads ∙ way.fields-to u q) i) (named-atom f (is_leaf ∙ leaf-to b x c q ∙ n.is)) (behind a u m e n.place n.size f refl n.ends once w)
-          go (No n y) q =
-              by (child_no t m (reads ∙ way.fields-no u q)) (named-no f (is_leaf ∙ leaf-no b x c q)) (same u once (own_atom a) (listed_some n (rw q at (near_row b b x (c + 1)))))
+          go (Ok e) q =
+              let n = one.name c e q in
+              by (child_done t m (reads ∙ way.fields-to u q) i) (named-atom _ (n.node h refl)) (behind a u m e n.name f refl n.ends once w)
+          go (Err r) q = by (child_no t m (reads ∙ way.fields-no u q)) (named-no _ (one.refused c h refl q)) (same r u once (own_atom a))
 
       atomic : Atoms
       atomic = go (ltb c (length b)) (is_atom b c) refl refl
@@ -142,10 +141,10 @@ module _ (b : List ℕ) (at : ℕ) where
           go true true h i = an_atom (ltb-true c (length b) h) i
           go true false h i =
               let l = ltb-true c (length b) h in
-              by refl (named-no f (node-is b c false l i) ∙ rw a.starts) (tag_at_once (judged a false l i))
+              by refl (named-no _ (node-other b c l i) ∙ rw a.starts) (tag_at_once (judged a false l i))
           go false z h i =
               let l = ltb-false c (length b) h in
-              by (child_no t m (way.term_eof plain b limit (suc left) t (reach t) l refl)) (named-no f (node_eof b c l)) (same (reach t) (missing a l) (own_atom a) (omega arith))
+              by (child_no t m (way.term_eof plain b limit (suc left) t (reach t) l refl)) (named-no _ (node_eof b c l)) (same refusal.Eof (reach t) (missing a l) (own_atom a))
 
   module _ (begun deepest limit left : ℕ) where
     abbrev start : State
@@ -153,11 +152,11 @@ module _ (b : List ℕ) (at : ℕ) where
 
     pub pid : Agrees b at 88 (reading.pid (child limit left) b start) (head.pid b at)
     unfolding reading.pid head.pid has_atom atom_at
-    pid = atomic limit left start 12 _ (record { some = refl; starts = refl }) (pid-numbers (at + 1))
+    pid = atomic limit left start 12 _ (record { some = refl; starts = refl }) pid-numbers
 
     pub port : Agrees b at 120 (reading.pid (child limit left) b start) (head.port b at)
     unfolding reading.pid head.port has_atom atom_at
-    port = atomic limit left start 12 _ (record { some = refl; starts = refl }) (port-numbers (at + 1))
+    port = atomic limit left start 12 _ (record { some = refl; starts = refl }) port-numbers
 
     pub reference : Agrees b at 90 (reading.reference (child limit left) b start) (head.reference b at)
     unfolding reading.reference head.reference has_atom atom_at
@@ -165,4 +164,4 @@ module _ (b : List ℕ) (at : ℕ) where
         let q : at + 1 + 2 ≡ at + 3 = omega arith in
         let a : Atomic 90 (at + 3) = record { some = refl; starts = refl } in
         sized begun deepest 2 _ _ (λ e. missing a (omega (arith, eof_gone 2 b (at + 1) e)))
-        (λ n e. rw q (atomic limit left (moved (at + 3) start) (4 + 4 * n) _ a (reference-numbers (at + 3) n)))
+        (λ n e. rw q (atomic limit left (moved (at + 3) start) (4 + 4 * n) _ a (reference-numbers n)))

@@ -1,5 +1,5 @@
 -- What a head answers, in document 01's two sentences: its fields by place, and when it is refused, by what reading answers at the same place.
-use Rattle.std.specs.Prelude.{ℕ, ◌+◌, List, Bool, cond, not, ◌&&◌, ◌||◌, eqb, ltb, pos, length, get_or, take, drop}
+use Rattle.std.specs.Prelude.{ℕ, ◌+◌, List, Bool, cond, not, ◌&&◌, ◌||◌, eqb, ltb, pos, length, get_or, take, drop, Ok, Err}
 use Rattle.std.specs.Float.{binary64}
 use Rattle.std.specs.Float.Ieee.{of_bits}
 use Rattle.fields.specs.Be.{signed}
@@ -7,12 +7,17 @@ use Rattle.fields.specs.Field.{number_at}
 use Rattle.literal.specs.Inner.Trim.{trimmed}
 use Rattle.numbers.specs.Caps as cap
 use Rattle.numbers.specs.Numbers as number
-use Rattle.reading.specs.declared.Answer.{Answer}
+use Rattle.reading.specs.Told as reading
 use Rattle.reading.specs.Answer.{read_at}
 use Rattle.reading.specs.Terms.{is_atom}
 use Rattle.heads.specs.declared.Value.{Value}
 use Rattle.heads.specs.declared.Value.TheVariants as value
-use Rattle.heads.specs.declared.Headed.{Headed}
+use Rattle.heads.specs.declared.Run.{Run}
+use Rattle.heads.specs.Told.{Told}
+
+-- bytes by their place and their number
+abbrev pub run : ℕ → ℕ → Run
+run p n = record { at = p; len = n }
 
 -- "the atom of 88, 90 and 120 (a place too)": which tags have one, and where it starts in a term that starts at `at`
 unfoldable pub has_atom : ℕ → Bool
@@ -42,22 +47,22 @@ fields_at b tag at =
     let q = s + n in
     cond (eqb tag 97) (value.Integer (pos (number_at 1 b p)))
     (cond (eqb tag 98) (value.Integer (signed (number_at 4 b p)))
-    (cond (eqb tag 99) (value.NumberText p (trimmed (take 31 (drop p b))))
+    (cond (eqb tag 99) (value.NumberText (run p (trimmed (take 31 (drop p b)))))
     (cond (eqb tag 70) (value.Double (of_bits binary64 (number_at 8 b p)) (number_at 8 b p))
-    (cond (eqb tag 100 || eqb tag 118 || eqb tag 119) (value.Atom (name_place tag at) (name_length b tag at))
+    (cond (eqb tag 100 || eqb tag 118 || eqb tag 119) (value.Atom (run (name_place tag at) (name_length b tag at)))
     (cond (eqb tag 104) (value.Tuple (number_at 1 b p))
     (cond (eqb tag 105) (value.Tuple (number_at 4 b p))
     (cond (eqb tag 106) value.Nil
-    (cond (eqb tag 107) (value.String (p + 2) (number_at 2 b p))
+    (cond (eqb tag 107) (value.String (run (p + 2) (number_at 2 b p)))
     (cond (eqb tag 108) (value.List (number_at 4 b p))
-    (cond (eqb tag 109) (value.Binary (p + 4) (number_at 4 b p))
-    (cond (eqb tag 77) (value.BitString (p + 5) (number_at 4 b p) (number_at 1 b (p + 4)))
-    (cond (eqb tag 110) (value.Big (p + 2) (number_at 1 b p) (number_at 1 b (p + 1)) (not (eqb (number_at 1 b (p + 1)) 0)))
-    (cond (eqb tag 111) (value.Big (p + 5) (number_at 4 b p) (number_at 1 b (p + 4)) (not (eqb (number_at 1 b (p + 4)) 0)))
+    (cond (eqb tag 109) (value.Binary (run (p + 4) (number_at 4 b p)))
+    (cond (eqb tag 77) (value.BitString (run (p + 5) (number_at 4 b p)) (number_at 1 b (p + 4)))
+    (cond (eqb tag 110) (value.Big (run (p + 2) (number_at 1 b p)) (number_at 1 b (p + 1)) (not (eqb (number_at 1 b (p + 1)) 0)))
+    (cond (eqb tag 111) (value.Big (run (p + 5) (number_at 4 b p)) (number_at 1 b (p + 4)) (not (eqb (number_at 1 b (p + 4)) 0)))
     (cond (eqb tag 116) (value.Map (number_at 4 b p))
-    (cond (eqb tag 88) (value.Pid s n (number_at 4 b q) (number_at 4 b (q + 4)) (number_at 4 b (q + 8)))
-    (cond (eqb tag 90) (value.Reference (number_at 2 b p) s n (number_at 4 b q) (q + 4))
-    (cond (eqb tag 120) (value.Port s n (number_at 8 b q) (number_at 4 b (q + 8)))
+    (cond (eqb tag 88) (value.Pid (run s n) (number_at 4 b q) (number_at 4 b (q + 4)) (number_at 4 b (q + 8)))
+    (cond (eqb tag 90) (value.Reference (number_at 2 b p) (run s n) (number_at 4 b q) (q + 4))
+    (cond (eqb tag 120) (value.Port (run s n) (number_at 8 b q) (number_at 4 b (q + 8)))
     (cond (eqb tag 113) value.Export
     (value.Function (number_at 4 b p) (number_at 1 b (p + 4)) (p + 5) (number_at 4 b (p + 21)) (number_at 4 b (p + 25)))))))))))))))))))))
 
@@ -72,7 +77,7 @@ own_offset tag at o = eqb o at || has_atom tag && eqb o (atom_at tag at)
 
 -- "takes bytes and any offset"; "It refuses as reading would", where reading answers a: an input that is too long isn't read at all; at an
 -- offset of its own. Else, where reading is refused further on or is Done, it says what its row does
-unfoldable pub head_then : {A : Type 0} → (refuse : ℕ → ℕ → ℕ → A) → (says : ℕ → A) → List ℕ → ℕ → Answer → A
+unfoldable pub head_then : {A : Type 0} → (refuse : ℕ → ℕ → ℕ → A) → (says : ℕ → A) → List ℕ → ℕ → reading.Told → A
 head_then refuse says b at a =
     let tag = get_or b at 0 in
     let refused = refuse a.number a.offset a.extra in
@@ -82,8 +87,8 @@ head_then refuse says b at a =
     (says tag)))
 
 -- the tag is 0 where no byte was read
-unfoldable pub head_of : List ℕ → ℕ → Headed
-head_of b at = record { tag = cond (ltb cap.input (length b)) 0 (get_or b at 0); value = head_then value.No (λ tag. fields_at b tag at) b at (read_at b at cap.nesting) }
+unfoldable pub head_of : List ℕ → ℕ → ℕ × Told
+head_of b at = (cond (ltb cap.input (length b)) 0 (get_or b at 0), head_then (λ n o x. Err (n, o, x)) (λ tag. Ok (fields_at b tag at)) b at (read_at b at cap.nesting))
 
 -- "A second call returns an atom's or binary's (tag 109) part of the input, else an empty part": its place and its length, and its bytes
 unfoldable pub run_by : List ℕ → ℕ → ℕ → ℕ × ℕ

@@ -8,12 +8,12 @@ use mathlib.Core.List.{List}
 use borrow.Author.Tests.{leb-true, le-leb, lt-leb}
 use lib.Dec.{leb}
 use lib.ListN.{length, replicate}
-use Rattle.numbers.specs.Numbers as number
-use Rattle.numbers.specs.Numbers.{among}
-use Rattle.numbers.proofs.Laws.{Shown, by_test}
-use Rattle.names.specs.Form.{nothing, name, Put, done, no}
+use Rattle.std.specs.Prelude.{Some, None, Result, Ok, Err}
+use Rattle.numbers.specs.declared.Refusal.{Refusal}
+use Rattle.numbers.specs.declared.Refusal.TheVariants as refusal
+use Rattle.numbers.proofs.Laws.{Shown}
+use Rattle.references.proofs.Outcomes.{header_outcome, fine}
 use Rattle.names.specs.Inner.Map.{updated, one, held_slots, Bytes, Lawful}
-use Rattle.names.proofs.Outcomes.{put_outcome}
 use Rattle.cache.specs.Names.{store_bytes, filled, count_of, filled_slots, marked, stored, view, Slots, put, slots}
 use Rattle.cache.proofs.Below.{Below}
 use Rattle.cache.proofs.Counts.{count-is}
@@ -38,34 +38,33 @@ with s i n = record { cache = record { filled = marked s.cache.filled i }; store
 
 -- by the name's length
 module _ (s : Slots) (i : ℕ) (n : List ℕ) where
-  pub takes : length n ≤ 255 → put s i n ≡ done (with s i n)
+  pub takes : length n ≤ 255 → put s i n ≡ Ok (with s i n)
   unfolding put
   takes h = rw (le-leb (length n) 255 h)
 
-  pub too_large : 255 < length n → put s i n ≡ no number.Name 0
+  pub too_large : 255 < length n → put s i n ≡ Err refusal.Name
   unfolding put
   too_large h = rw (lt-leb (length n) 255 h)
 
-  took : {t : Slots} → put s i n ≡ done t → (length n ≤ 255) × (with s i n ≡ t)
+  took : {t : Slots} → put s i n ≡ Ok t → (length n ≤ 255) × (with s i n ≡ t)
   unfolding put
   took {t} e = go (leb (length n) 255) refl
     where
       go : (u : Bool) → leb (length n) 255 ≡ u → (length n ≤ 255) × (with s i n ≡ t)
-      go true h = let f : done (with s i n) ≡ done t = rw h at e in (leb-true (length n) 255 h, (cc))
+      go true h = let f : ◌≡◌ {A = Result Slots Refusal} (Ok (with s i n)) (Ok t) = rw h at e in (leb-true (length n) 255 h, (cc))
       go false h =
-          let f : no number.Name 0 ≡ done t = rw h at e in
+          let f : ◌≡◌ {A = Result Slots Refusal} (Err refusal.Name) (Ok t) = rw h at e in
           absurd (let z : ◌≡◌ {A = ℕ} 0 1 = cc in omega arith)
 
-  pub put-shown : Shown (put_outcome (put s i n))
-  unfolding put among
-  put-shown = by_test (λ (p : Put Slots). Shown (put_outcome p)) (leb (length n) 255) _ _ tt refl
+  pub put-shown : Shown (header_outcome (put s i n))
+  put-shown = fine (put s i n)
 
-put-held : {s : Slots} → Made s → (i : ℕ) → i < 256 → (n : List ℕ) → {t : Slots} → put s i n ≡ done t → (j : ℕ) → slots.held t j ≡ updated (slots.held s) i n j
+put-held : {s : Slots} → Made s → (i : ℕ) → i < 256 → (n : List ℕ) → {t : Slots} → put s i n ≡ Ok t → (j : ℕ) → slots.held t j ≡ updated (slots.held s) i n j
 put-held {s} h i k n {t} e j =
     let f = took s i n e in
     ap (λ (x : Slots). slots.held x j) (sym f.1) ∙ put_view s.cache.filled s.store i n h.four h.size h.bytes k f.0 j
 
-put_made : {s : Slots} → Made s → (i : ℕ) (n : List ℕ) → Bytes n → {t : Slots} → put s i n ≡ done t → Made t
+put_made : {s : Slots} → Made s → (i : ℕ) (n : List ℕ) → Bytes n → {t : Slots} → put s i n ≡ Ok t → Made t
 put_made {s} h i n low {t} e =
     let f = took s i n e in
     rw (sym f.1) (record {
@@ -82,7 +81,7 @@ slots_lawful = record {
 }
 
 -- the filled slots are those that hold a name
-one-is : (t : Bool) (n : List ℕ) → one (cond t (name n) nothing) ≡ cond t 1 0
+one-is : (t : Bool) (n : List ℕ) → one (cond t (Some n) None) ≡ cond t 1 0
 one-is true n = refl
 one-is false n = refl
 

@@ -8,9 +8,10 @@
 
 #![tactic(auto)]
 
-ghost use Rattle.std.specs.Prelude.{◌≡◌, ◌≤◌, replicate};
-ghost use Rattle.std.specs.Int.Count as bits;
+ghost use Rattle.std.specs.Prelude.{◌≡◌, replicate};
 ghost use Rattle.cache.specs.Names as spec;
+
+use numbers::Refusal;
 
 // The bytes of a slot, and of a store of 256 slots.
 pub const SLOT_BYTES: usize = 256;
@@ -18,69 +19,79 @@ pub const SLOT_BYTES: usize = 256;
 pub const STORE_BYTES: usize = 65536;
 
 // Which slots are filled: bit i mod 64 of word i div 64.
-#[derive(Clone, Copy)]
+#[derive(Clone, Copy, PartialEq, Eq)]
 pub struct Cache {
     pub filled: [u64; 4],
 }
 
-// A name's place in the store and its length, or a refusal's number.
-#[derive(Clone, Copy)]
-pub enum Got {
-    Name(usize, usize),
-    No(u64),
+// A name's place in the store, and its length.
+#[derive(Clone, Copy, PartialEq, Eq)]
+pub struct Name {
+    pub at: usize,
+    pub len: usize,
 }
 
-// A cache with no name in it, for any store: no slot's bit is set.
-pub fn empty() -> Cache
-    ensures { result ≡ record { filled = replicate 4 0 } }
-{
-    Cache { filled: [0; 4] }
-}
-
-// The count of names in a cache: the ones in all four words. It is the number of filled slots (`count-is` in
-// proofs/Counts.antt).
-pub fn count(c: Cache) -> usize
-    ensures { result ≡ spec.count_of c.filled }
-{
-    let w = c.filled;
-    ones(w[0]) + ones(w[1]) + ones(w[2]) + ones(w[3])
-}
-
-// The name in a slot, for any slot and any store: its place in the store and its length. A store of other than 65,536 bytes is refused
-// as Store, a slot that is not filled as Absent.
-pub fn get(c: Cache, store: &[u8], slot: u8) -> Got
-    ensures { result ≡ spec.got_at c.filled store.now slot }
-{
-    if store.len() != STORE_BYTES {
-        return Got::No(numbers::STORE);
+impl Cache {
+    // A cache with no name in it, for any store: no slot's bit is set.
+    pub fn empty() -> Cache
+        ensures { result ≡ record { filled = replicate 4 0 } }
+    {
+        Cache { filled: [0; 4] }
     }
-    let i = slot as usize;
-    let words = c.filled;
-    let word = words[i / 64];
-    if (word >> (i % 64)) % 2 != 1 {
-        return Got::No(numbers::ABSENT);
-    }
-    let at = i * SLOT_BYTES;
-    Got::Name(at + 1, store[at] as usize)
-}
 
-// The bytes of the name that `get` answers, as a part of the store. Where it refuses, the part is empty.
-pub fn part(c: Cache, store: &[u8], slot: u8) -> &[u8]
-    ensures { result.now ≡ spec.part_of store.now (spec.got_at c.filled store.now slot) }
-{
-    let g = get(c, store, slot);
-    match g {
-        Got::Name(at, n) => {
-            let e = at + n;
-            &store[at..e]
+    // The count of names in a cache: the ones in all four words. It is the number of filled slots (`count-is` in
+    // proofs/Counts.antt).
+    pub fn count(self) -> usize
+        ensures { result ≡ spec.count_of self.filled }
+    {
+        let [a, b, c, d] = self.filled;
+        a.count_ones() as usize
+            + b.count_ones() as usize
+            + c.count_ones() as usize
+            + d.count_ones() as usize
+    }
+
+    // Whether a slot is filled.
+    pub fn is_filled(self, slot: u8) -> bool
+        ensures { result ≡ spec.filled self.filled slot }
+    {
+        let i = usize::from(slot);
+        (self.filled[i / 64] >> (i % 64)) % 2 == 1
+    }
+
+    // The name in a slot, for any slot and any store. A store of other than 65,536 bytes is refused as Store, a slot that is not filled as
+    // Absent.
+    pub fn get(self, store: &[u8], slot: u8) -> Result<Name, Refusal>
+        ensures { result ≡ spec.got_at self.filled store.now slot }
+    {
+        if store.len() != STORE_BYTES {
+            return Err(Refusal::Store);
         }
-        Got::No(_) => &store[..0],
+        if !self.is_filled(slot) {
+            return Err(Refusal::Absent);
+        }
+        let at = usize::from(slot) * SLOT_BYTES;
+        Ok(Name {
+            at: at + 1,
+            len: usize::from(store[at]),
+        })
     }
-}
 
-// The ones of a word, at most 64.
-fn ones(w: u64) -> usize
-    ensures { (result ≡ bits.ones w) × (result ≤ 64) }
-{
-    u64::count_ones(w) as usize
+    // The bytes of the name that `get` answers, as a part of the store. Where it refuses, the part is empty.
+    pub fn part(self, store: &[u8], slot: u8) -> &[u8]
+        ensures { result.now ≡ spec.part_of store.now (spec.got_at self.filled store.now slot) }
+    {
+        match self.get(store, slot) {
+            Ok(name) => &store[name.at..name.at + name.len],
+            Err(_) => &store[..0],
+        }
+    }
+
+    // Notes that a slot is filled.
+    pub fn mark(&mut self, slot: u8)
+        ensures { self.new ≡ record { filled = spec.marked self.old.filled slot } }
+    {
+        let i = usize::from(slot);
+        self.filled[i / 64] |= 1 << (i % 64);
+    }
 }

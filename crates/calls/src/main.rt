@@ -6,13 +6,12 @@
 
 #![tactic(auto)]
 
-ghost use Rattle.std.specs.Prelude.{◌<◌};
-
-use asking::Over;
-use cache::Cache;
-use naming::Reached;
+use asking::Request;
+use lines::Lines;
+use naming::Names;
 use print::Out;
-use std::io::Stdin;
+use std::fmt;
+use std::fmt::Write;
 use std::process::ExitCode;
 
 fn main(rt: HostRuntime) -> ExitCode {
@@ -26,17 +25,15 @@ fn main(rt: HostRuntime) -> ExitCode {
     let mut lent = [0u8; 262144];
     let mut room = [0u8; 65536];
     let mut out = Out::new(&mut room, rt.stdout(), rt.stderr());
-    serve(
-        rt.stdin(),
-        &mut text,
-        &mut store,
-        &mut noted,
-        &mut run,
-        &mut row,
-        &mut lent,
-        &mut out,
-    );
-    print::status(&out)
+    let mut lines = Lines::new(rt.stdin(), &mut text);
+    let mut memory = Memory {
+        names: Names::new(&mut store, &mut noted),
+        run: &mut run,
+        row: &mut row,
+        lent: &mut lent,
+    };
+    let _ = serve(&mut lines, &mut memory, &mut out);
+    out.status()
 }
 
 // The words of a tape: five for each term that a request of 65,536 bytes can have.
@@ -44,80 +41,83 @@ fn space() -> [u32; 327680] {
     [0; 327680]
 }
 
-// Answers all of standard input. The names of headers live from line to line, and so do the positions of the last message's.
-// A proved loop has to end, and nothing says that the input does: it counts its turns down from a number that no run uses up.
-fn serve(
-    stdin: Stdin,
-    text: &mut [u8],
-    store: &mut [u8],
-    noted: &mut [u8; 256],
-    run: &mut [u32],
-    row: &mut [u64],
-    lent: &mut [u8],
-    out: &mut Out<'_>,
-) {
-    let mut names = cache::empty();
-    let mut from = 0;
-    let mut end = 0;
-    let mut at = 0;
-    let mut turns = u64::MAX;
-    while 0 < turns {
-        let stop = lines::stop(text, from, end);
-        if stop < end {
-            let next = stop + 1;
-            let put = answer(
-                &mut text[from..stop],
-                names,
-                store,
-                noted,
-                run,
-                row,
-                lent,
-                out,
-                at,
-            );
-            at = print::text(out, put.at, b"\n");
-            names = put.names;
-            from = next;
-            turns -= 1;
-            continue;
+// Answers all of standard input, or as much as the output takes. A proved loop has to end, and nothing says that the input does: no run uses
+// up so many turns.
+fn serve(lines: &mut Lines<'_>, memory: &mut Memory<'_>, out: &mut Out<'_>) -> fmt::Result {
+    for _ in 0..u64::MAX {
+        match lines.next_with(|line| memory.answer(line, out)) {
+            Some(answered) => answered?,
+            None if lines.more(out)? => {}
+            None => break,
         }
-        end = lines::more(stdin, text, from, end, out, at);
-        turns = left(turns, end);
-        from = 0;
-        at = 0;
+    }
+    Ok(())
+}
+
+// What the answers are made over: the names, which live from line to line, a run for tapes, one for a row's numbers, and bytes for the writer.
+#[derive(Drop)]
+struct Memory<'a> {
+    names: Names<'a>,
+    run: &'a mut [u32],
+    row: &'a mut [u64],
+    lent: &'a mut [u8],
+}
+
+impl<'a> Memory<'a> {
+    // The answer to a line, as a line.
+    fn answer(&mut self, line: &mut [u8], out: &mut Out<'_>) -> fmt::Result {
+        match asking::of(line, self.row) {
+            Ok(request) => answer(request, &mut self.names, self.run, self.lent, out)?,
+            Err(nothing) => write!(out, "{nothing}")?,
+        }
+        writeln!(out)
     }
 }
 
-// The turns that are left behind this one, none where nothing follows.
-fn left(turns: u64, end: usize) -> u64
-    requires { 0 < turns }
-    ensures { result < turns }
-{
-    if end == 0 {
-        return 0;
-    }
-    turns - 1
-}
-
-// The answer to a line, without the end of line.
 fn answer(
-    line: &mut [u8],
-    known: Cache,
-    store: &mut [u8],
-    noted: &mut [u8; 256],
+    request: Request<'_>,
+    names: &mut Names<'_>,
     run: &mut [u32],
-    row: &mut [u64],
     lent: &mut [u8],
     out: &mut Out<'_>,
-    at: usize,
-) -> Reached {
-    let over = asking::which(line);
-    match over {
-        Over::Names => naming::answer(line, known, store, noted, out, at),
-        Over::Cells => naming::with(taping::answer(line, run, out, at), known),
-        Over::Both => messaging::answer(line, known, store, noted, run, out, at),
-        Over::Row => naming::with(writing::answer(line, row, lent, out, at), known),
-        Over::Bytes => naming::with(telling::answer(line, out, at), known),
+) -> fmt::Result {
+    match request {
+        Request::Term(b) => taping::term(b, run, out),
+        Request::Tape {
+            limit,
+            words,
+            bytes,
+        } => taping::tape(bytes, limit, words, run, out),
+        Request::Message {
+            limit,
+            words,
+            bytes,
+        } => messaging::message(bytes, limit, words, names, run, out),
+        Request::Write { room, row, texts } => writing::write(row, texts, room, lent, out),
+        Request::Header(b) => names.header(b, out),
+        Request::Get(slot) => names.get(slot, out),
+        Request::Position(k) => names.position(k, out),
+        Request::Atom { at, bytes } => names.atom(bytes, at, out),
+        Request::Names => names.all(out),
+        Request::Count => names.count(out),
+        Request::Clear => names.clear(out),
+        Request::Utf8(b) => telling::utf8(b, out),
+        Request::Literal(b) => telling::literal(b, out),
+        Request::First(b) => telling::first(b, out),
+        Request::Next(b) => telling::next(b, out),
+        Request::Head { at, bytes } => telling::head(bytes, at, out),
+        Request::Read { limit, at, bytes } => telling::read(bytes, limit, at, out),
+        Request::Name {
+            limit,
+            at,
+            name,
+            bytes,
+        } => telling::name(bytes, limit, at, name, out),
+        Request::Number {
+            limit,
+            at,
+            key,
+            bytes,
+        } => telling::number(bytes, limit, at, key, out),
     }
 }

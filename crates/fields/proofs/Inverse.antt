@@ -9,11 +9,9 @@ use lib.Pow.{pow-add}
 use lib.Seq.{length-take-le, get_or-drop}
 use Rattle.fields.specs.Be.{be, be_at, bytes_of}
 use Rattle.fields.specs.Inner.Be.{Bytes, none, more}
-use Rattle.fields.specs.Field.{field_at, number_at}
-use Rattle.fields.specs.Inner.Field.{known}
-use Rattle.fields.specs.declared.Field.{Field}
-use Rattle.fields.specs.declared.Field.TheVariants as field
-use Rattle.fields.proofs.Laws.{be-append, is_whole, known_is}
+use Rattle.std.specs.Prelude.{Some}
+use Rattle.fields.specs.Field.{field_at}
+use Rattle.fields.proofs.Laws.{be-append, is_whole}
 
 places : (k : ℕ) → 0 < 256 ^ k
 places k = one-le-pow k 256 (omega arith)
@@ -79,20 +77,10 @@ taken zero r = none
 taken (suc k) none = none
 taken (suc k) (more h r) = more h (taken k r)
 
-pub is_below : (k : ℕ) (b : List ℕ) (at : ℕ) {n : ℕ} → ((i : ℕ) → get_or b i 0 < 256) → field_at k b at ≡ field.Is n → n < 256 ^ k
+pub is_below : (k : ℕ) (b : List ℕ) (at : ℕ) {n : ℕ} → ((i : ℕ) → get_or b i 0 < 256) → field_at k b at ≡ Some n → n < 256 ^ k
 unfolding be_at
 is_below k b at {n} h e =
     let w = is_whole k b at e in
     let r : Bytes (take k (drop at b)) = taken k (bytes_of_lem (drop at b) (λ i. rw get_or-drop (h (at + i)))) in
     let l : length (take k (drop at b)) ≡ k = length-take-le k (drop at b) (simp length-drop (omega arith)) in
     rw w.1 (subst (λ (m : ℕ). be (take k (drop at b)) < 256 ^ m) l (be-below r))
-
--- a number that was read, with a bound by its width
-pub number_is : (k : ℕ) (b : List ℕ) (at : ℕ) {f : Field} {r : ℕ} → ((i : ℕ) → get_or b i 0 < 256) → f ≡ field_at k b at → r ≡ known f → (r ≡ number_at k b at) × (r < 256 ^ k)
-number_is k b at {f} {r} h e q =
-    let i : r ≡ known (field_at k b at) = q ∙ ap known e in
-    (i ∙ known_is k b at, subst (λ (n : ℕ). n < 256 ^ k) (sym i) (go (field_at k b at) refl))
-  where
-    go : (f : Field) → field_at k b at ≡ f → known f < 256 ^ k
-    go (field.Is n) e = is_below k b at h e
-    go field.Eof e = one-le-pow k 256 (omega arith)

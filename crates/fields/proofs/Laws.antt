@@ -5,22 +5,19 @@ use native.Mathlib.Omega.{arith}
 use mathlib.Core.Path.{◌≡◌, refl, ap, sym, ◌∙◌}
 use mathlib.Core.Logic.{◌↔◌}
 use mathlib.Core.List.{List, [], ◌∷◌, ◌++◌}
-use lib.ListN.{length, take, drop, get_or, length-append, length-drop}
+use lib.ListN.{length, take, get_or, get_or-eq_default, length-append}
 use lib.Pow.{pow-add}
 use lib.Dec.{leb, eqb}
-use lib.IntN.{ℤ, pos, negsuc, ◌-ℤ◌}
-use lib.Signed.{mag}
-use mir.Syntax.{w64}
+use lib.IntN.{ℤ, pos, negsuc}
+use mir.Syntax.{w32}
 use mir.Val.{to_z}
 use borrow.Author.Tests.{leb-true, leb-false, le-leb, lt-leb, lt-ltb, le-ltb, eq-eqb, ne_eqb}
 use mathlib.Core.Bool.{Bool, true, false, cond}
-use lib.Seq.{length-take-le, take-add, drop-drop, drop-cons}
+use lib.Seq.{drop-cons}
 use Rattle.fields.specs.Be.{be, be_at, signed}
 use Rattle.fields.specs.Field.{holds, field_at, integer_at, number_then, byte_then, number_at}
-use Rattle.fields.specs.Inner.Field.{known}
-use Rattle.fields.specs.declared.Field.{Field}
-use Rattle.fields.specs.declared.Field.TheVariants as field
-use Rattle.fields.specs.declared.Integer.TheVariants as integer
+use Rattle.std.specs.Prelude.{Option, Some, None}
+use Rattle.std.specs.Option.{unwrap_or}
 
 -- a run behind another is worth its own number, and shifts the first by its bytes
 pub be-append : (s t : List ℕ) → be (s ++ t) ≡ be s * 256 ^ length t + be t
@@ -28,12 +25,6 @@ unfolding be
 be-append [] t = omega arith
 be-append (x ∷ s) t =
     rw (be-append s t, length-append s t, pow-add 256 (length s) (length t), add-mul, mul_assoc) (omega arith)
-
--- two numbers that lie side by side are one number
-pub be_joined : (j k : ℕ) (b : List ℕ) (at m n : ℕ) → at + (j + k) ≤ length b → m ≡ be_at j b at → n ≡ be_at k b (at + j) → m * 256 ^ k + n ≡ be_at (j + k) b at
-unfolding be_at
-be_joined j k b at m n h e f =
-    rw (e, f, take-add, drop-drop, be-append, length-take-le k (drop (at + j) b) (simp length-drop (omega arith)))
 
 pub be-one : (b : List ℕ) (at : ℕ) → at < length b → be_at 1 b at ≡ get_or b at 0
 unfolding be be_at
@@ -57,45 +48,45 @@ module _ (k : ℕ) (b : List ℕ) (at : ℕ) where
   unfolding holds
   is_gone h = lt-leb _ _ h
 
-  pub field_is : holds k b at ≡ true → {n : ℕ} → n ≡ be_at k b at → field.Is n ≡ field_at k b at
+  pub field_is : holds k b at ≡ true → {n : ℕ} → n ≡ be_at k b at → Some n ≡ field_at k b at
   unfolding field_at
   field_is h e = rw (h, e)
 
-  pub field_eof : holds k b at ≡ false → field.Eof ≡ field_at k b at
+  pub field_eof : holds k b at ≡ false → None ≡ field_at k b at
   unfolding field_at
   field_eof h = rw h
 
   -- what a field that is there says
-  pub is_whole : {n : ℕ} → field_at k b at ≡ field.Is n → (at + k ≤ length b) × (n ≡ be_at k b at)
+  pub is_whole : {n : ℕ} → field_at k b at ≡ Some n → (at + k ≤ length b) × (n ≡ be_at k b at)
   unfolding field_at
   is_whole {n} e = go (holds k b at) refl
     where
       go : (t : Bool) → holds k b at ≡ t → (at + k ≤ length b) × (n ≡ be_at k b at)
-      go true h = let f : field.Is (be_at k b at) ≡ field.Is n = rw h at e in (there h, (cc))
-      go false h = let f : field.Eof ≡ field.Is n = rw h at e in absurd (let z : ◌≡◌ {A = ℕ} 0 1 = cc in omega arith)
+      go true h = let f : Some (be_at k b at) ≡ Some n = rw h at e in (there h, (cc))
+      go false h = let f : None ≡ Some n = rw h at e in absurd cc
 
   -- a number that is known to be there
   pub at_there : at + k ≤ length b → number_at k b at ≡ be_at k b at
   at_there h = rw (is-there h)
 
-  pub known_is : known (field_at k b at) ≡ number_at k b at
-  unfolding field_at
-  known_is = go (holds k b at) refl
-    where
-      go : (t : Bool) → holds k b at ≡ t → known (field_at k b at) ≡ number_at k b at
-      go true h = rw h
-      go false h = rw h
+  pub number_of : {n : ℕ} → field_at k b at ≡ Some n → number_at k b at ≡ n
+  number_of e = let (h, q) = is_whole e in at_there h ∙ sym q
 
-  pub number_of : {n : ℕ} → field_at k b at ≡ field.Is n → number_at k b at ≡ n
-  number_of e = sym known_is ∙ ap known e
+  pub known : unwrap_or (field_at k b at) 0 ≡ number_at k b at
+  unfolding field_at
+  known = go (holds k b at)
+    where
+      go : (t : Bool) → unwrap_or (cond t (Some (be_at k b at)) None) 0 ≡ cond t (be_at k b at) 0
+      go true = refl
+      go false = refl
 
   -- what comes behind a number that is there, and what is said where it isn't
   module _ {A : Type 0} (missing : A) (f : ℕ → ℕ → A) where
-    pub then_is : {n : ℕ} → field_at k b at ≡ field.Is n → number_then missing k b f at ≡ f n (at + k)
+    pub then_is : {n : ℕ} → field_at k b at ≡ Some n → number_then missing k b f at ≡ f n (at + k)
     unfolding number_then
     then_is e = rw e
 
-    pub then_eof : field_at k b at ≡ field.Eof → number_then missing k b f at ≡ missing
+    pub then_eof : field_at k b at ≡ None → number_then missing k b f at ≡ missing
     unfolding number_then
     then_eof e = rw e
 
@@ -103,9 +94,25 @@ module _ (k : ℕ) (b : List ℕ) (at : ℕ) where
     pub by_then : (P : A → Type 0) → P missing → ((n : ℕ) → P (f n (at + k))) → P (number_then missing k b f at)
     by_then P h m = go (field_at k b at) refl
       where
-        go : (x : Field) → field_at k b at ≡ x → P (number_then missing k b f at)
-        go (field.Is n) e = rw (then_is e) (m n)
-        go field.Eof e = rw (then_eof e) h
+        go : (x : Option ℕ) → field_at k b at ≡ x → P (number_then missing k b f at)
+        go (Some n) e = rw (then_is e) (m n)
+        go None e = rw (then_eof e) h
+
+-- the byte at a place, 0 where there is none; and a number that isn't 0 is there
+pub byte_at : (b : List ℕ) (at : ℕ) → number_at 1 b at ≡ get_or b at 0
+unfolding holds
+byte_at b at = go (leb (at + 1) (length b)) refl
+  where
+    go : (t : Bool) → leb (at + 1) (length b) ≡ t → cond t (be_at 1 b at) 0 ≡ get_or b at 0
+    go true h = be-one b at (omega (arith, leb-true _ _ h))
+    go false h = sym (get_or-eq_default b 0 (omega (arith, leb-false _ _ h)))
+
+pub some_there : (k : ℕ) (b : List ℕ) (at : ℕ) → 0 < number_at k b at → at + k ≤ length b
+some_there k b at = go (holds k b at) refl
+  where
+    go : (t : Bool) → holds k b at ≡ t → 0 < cond t (be_at k b at) 0 → at + k ≤ length b
+    go true h l = there k b at h
+    go false h l = absurd (omega arith)
 
 -- a byte, by its place
 module _ {A : Type 0} (missing : A) (b : List ℕ) (f : ℕ → ℕ → A) (at : ℕ) where
@@ -139,11 +146,19 @@ module _ {A : Type 0} (missing : A) (other : ℕ → A) (v : ℕ) (b : List ℕ)
       go x false = o x
 
 module _ (b : List ℕ) (at : ℕ) where
-  pub integer-is : holds 4 b at ≡ true → {z : ℤ} → z ≡ signed (be_at 4 b at) → integer.Is z ≡ integer_at b at
+  pub integer-is : holds 4 b at ≡ true → {z : ℤ} → z ≡ signed (be_at 4 b at) → Some z ≡ integer_at b at
   unfolding integer_at
   integer-is h e = rw (h, e)
 
-  pub integer_eof : holds 4 b at ≡ false → integer.Eof ≡ integer_at b at
+  pub integer_known : unwrap_or (integer_at b at) (pos 0) ≡ signed (number_at 4 b at)
+  unfolding integer_at signed
+  integer_known = go (holds 4 b at)
+    where
+      go : (t : Bool) → unwrap_or (cond t (Some (signed (be_at 4 b at))) None) (pos 0) ≡ signed (cond t (be_at 4 b at) 0)
+      go true = refl
+      go false = refl
+
+  pub integer_eof : holds 4 b at ≡ false → None ≡ integer_at b at
   unfolding integer_at
   integer_eof h = rw h
 
@@ -163,20 +178,12 @@ module _ (n : ℕ) (fits : n < 4294967296) where
       go e true h = leb-true _ _ h
       go e false h =
           let f : negsuc (4294967295 - n) ≡ pos n = sym (signed_negative (leb-false _ _ h)) ∙ e in
-          absurd (let z : ◌≡◌ {A = ℕ} 0 1 = cc in omega arith)
+          absurd cc
 
--- the same as the code's i64 has it
-module _ (n : ℕ) (fits : n < 4294967296) where
-  pub positive : to_z w64 n ≡ pos n
-  positive = rw (lt-ltb n (2 ^ 63) (omega arith))
-
-  pub signed_low : n < 2147483648 → to_z w64 n ≡ signed n
-  unfolding signed
-  signed_low h = rw (lt-ltb n 2147483648 h) positive
-
-  pub signed_high : 2147483648 ≤ n → to_z w64 n -ℤ pos 4294967296 ≡ signed n
-  unfolding signed
-  signed_high h = rw (le-ltb n 2147483648 h, positive)
-
-  pub mag_high : 2147483648 ≤ n → mag (to_z w64 n -ℤ pos 4294967296) < 2 ^ 63
-  mag_high h = rw (positive, lt-ltb n 4294967296 fits) (omega arith)
+  -- the same as a cast has it
+  pub signed-cast : to_z w32 n ≡ signed n
+  signed-cast = go (leb n 2147483647) refl
+    where
+      go : (x : Bool) → leb n 2147483647 ≡ x → to_z w32 n ≡ signed n
+      go true h = rw (lt-ltb n 2147483648 (omega (arith, leb-true _ _ h))) (sym (signed_natural.0 (leb-true _ _ h)))
+      go false h = rw (le-ltb n 2147483648 (omega (arith, leb-false _ _ h)), signed_negative (leb-false _ _ h)) (ap negsuc (omega arith))

@@ -1,39 +1,24 @@
--- A fragment's header is Done, or refused by a number of the list, whatever the input is. Assumes nothing.
+-- A fragment's header is accepted, or refused by a number of the list, whatever the input is. Assumes nothing.
 use Prim.Native.Nat.{ℕ}
-use mathlib.Core.Path.{refl}
 use mathlib.Core.List.{List}
-use lib.Dec.{ltb}
-use lib.ListN.{length}
-use Rattle.numbers.specs.Caps as cap
-use Rattle.numbers.specs.Numbers as number
-use Rattle.numbers.specs.Numbers.{among, Listed}
-use Rattle.numbers.proofs.Laws.{outcome, Shown, listed_shown, by_test}
-use Rattle.fields.proofs.Laws.{by_then, by_byte}
-use Rattle.fragments.specs.Fragment.{opened, no_first, no_next, first_at, next_at}
-use Rattle.fragments.specs.declared.FirstFragment.{FirstFragment}
-use Rattle.fragments.specs.declared.NextFragment.{NextFragment}
+use Rattle.std.specs.Prelude.{Result, Ok, Err}
+use Rattle.numbers.specs.Refusal.{number_of}
+use Rattle.numbers.specs.declared.Refusal.{Refusal}
+use Rattle.numbers.proofs.Laws.{Outcome, done, refused, Shown, refusal_listed}
+use Rattle.fragments.specs.Fragment.{first_at, next_at}
 
-module _ {A : Type 0} (Fine : A → Type 0) (no says : ℕ → ℕ → A) (refused : (n x : ℕ) → Listed n → Fine (no n x)) (told : (s f : ℕ) → Fine (says s f)) (b : List ℕ) where
-  eof : Fine (no number.Eof 0)
-  unfolding among
-  eof = refused number.Eof 0 refl
+-- a fragment's header: what it comes to
+abbrev pub fragment_outcome : {A : Type 0} → Result A Refusal → Outcome
+fragment_outcome (Ok f) = done
+fragment_outcome (Err r) = refused (number_of r)
 
-  of_opened : (tag : ℕ) → Fine (opened no b tag says)
-  unfolding opened among
-  of_opened tag =
-      by_test Fine (ltb cap.input (length b)) _ _ (refused number.Long 0 refl)
-      (by_byte _ _ 131 b _ 0 Fine eof (λ x. refused number.Version x refl)
-      (by_byte _ _ tag b _ 1 Fine eof (λ x. refused number.Kind x refl)
-      (by_then 8 b 2 _ _ Fine eof (λ s. by_then 8 b 10 _ _ Fine eof (told s)))))
+fine : {A : Type 0} (f : Result A Refusal) → Shown (fragment_outcome f)
+fine (Ok f) = tt
+fine (Err r) = refusal_listed r
 
 module _ (b : List ℕ) where
-  pub first-shown : Shown (outcome (first_at b).number)
-  unfolding first_at among
-  first-shown = of_opened Fine no_first _ (λ n x. listed_shown n) (λ s f. by_then 1 b 18 _ _ Fine refl (λ n. tt)) b 69
-    where
-      Fine : FirstFragment → Type 0
-      Fine r = Shown (outcome r.number)
+  pub first-shown : Shown (fragment_outcome (first_at b))
+  first-shown = fine (first_at b)
 
-  pub next-shown : Shown (outcome (next_at b).number)
-  unfolding next_at
-  next-shown = of_opened (λ (r : NextFragment). Shown (outcome r.number)) no_next _ (λ n x. listed_shown n) (λ s f. tt) b 70
+  pub next-shown : Shown (fragment_outcome (next_at b))
+  next-shown = fine (next_at b)

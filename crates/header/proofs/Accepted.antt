@@ -8,8 +8,10 @@ use mathlib.Core.Bool.{Bool, true, false}
 use borrow.Author.Tests.{eqb-true}
 use lib.Dec.{eqb}
 use lib.ListN.{length}
-use Rattle.numbers.specs.Numbers as number
-use Rattle.references.specs.declared.Opening.TheVariants as opening
+use Rattle.std.specs.Prelude.{Result, Ok, Err}
+use Rattle.numbers.specs.declared.Refusal.{Refusal}
+use Rattle.numbers.specs.declared.Refusal.TheVariants as refusal
+use Rattle.references.specs.declared.Opening.{Opening}
 use Rattle.references.specs.Header.{start_of}
 use Rattle.references.specs.Inner.Known.{AllThere}
 use Rattle.names.specs.Form.{Left}
@@ -17,18 +19,19 @@ use Rattle.names.specs.Inner.Map.{Bytes}
 use Rattle.names.proofs.Accepted as names
 use Rattle.cache.specs.declared.Cache.{Cache}
 use Rattle.cache.specs.Names.{store_bytes, Slots, slots}
-use Rattle.cache.proofs.Lawful.{put-shown}
 use Rattle.header.specs.Header.{header_over}
 use Rattle.header.proofs.Leaving.{of, is-over}
 
-module _ (b : List ℕ) (c : Cache) (s : List ℕ) (e : (header_over b c s).number ≡ 0) where
+module _ (b : List ℕ) (c : Cache) (s : List ℕ) {rest : ℕ} (d : (header_over b c s).rest ≡ Ok rest) where
   pub accepted-store : length s ≡ store_bytes
   unfolding header_over
   accepted-store = go (eqb (length s) store_bytes) refl
     where
       go : (t : Bool) → eqb (length s) store_bytes ≡ t → length s ≡ store_bytes
       go true h = eqb-true (length s) store_bytes h
-      go false h = let f : number.Store ≡ 0 = rw h at e in absurd (omega arith)
+      go false h =
+          let f : ◌≡◌ {A = Result ℕ Refusal} (Err refusal.Store) (Ok rest) = rw h at d in
+          absurd (let z : ◌≡◌ {A = ℕ} 0 1 = cc in omega arith)
 
-  pub accepted : Bytes b → {n p : ℕ} {long : Bool} → start_of b ≡ opening.At n long p → AllThere b n long p
-  accepted low o = names.accepted slots put-shown b low o (of c s) (ap (λ (l : Left Slots). l.number) (sym (is-over b c s accepted-store)) ∙ e)
+  pub accepted : Bytes b → {o : Opening} → start_of b ≡ Ok o → AllThere b o
+  accepted low o = names.accepted slots b low o (of c s) (ap (λ (l : Left Slots). l.rest) (sym (is-over b c s accepted-store)) ∙ d)

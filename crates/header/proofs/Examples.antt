@@ -9,7 +9,8 @@ use Rattle.fields.specs.Be.{be, be_at}
 use Rattle.fields.specs.Field.{holds, field_at, number_then, byte_then}
 use Rattle.utf8.specs.Unicode.{scalar, encode}
 use Rattle.utf8.specs.Inner.Find.{decode, starts, char_bytes, good_from, good_bytes}
-use Rattle.numbers.specs.Numbers as number
+use Rattle.std.specs.Prelude.{Ok, Err}
+use Rattle.numbers.specs.declared.Refusal.TheVariants as refusal
 use Rattle.rows.specs.Row as row
 use Rattle.references.specs.Header.{half_of, half_byte, new_in, is_new, long_bit, flagged, start_of, named, new_at, reference_at, behind, references, opened, header_of}
 use Rattle.references.proofs.Examples as references
@@ -33,9 +34,7 @@ abbrev worked_names : List Named
 worked_names = record { slot = 236; name = reg } ∷ record { slot = 9; name = call } ∷ record { slot = 238; name = set_get_state } ∷ []
 
 pub record Worked (s : Slots) (l : Left Slots) : Type 0 where
-  pub done : l.number ≡ 0
-  pub rest : l.rest ≡ 34
-  pub extra : l.extra ≡ 0
+  pub rest : l.rest ≡ Ok 34
   pub names : (j : ℕ) → slots.held l.cache j ≡ updated_all (slots.held s) worked_names j
 
 -- a list of bytes, by what is left of each above 255
@@ -54,9 +53,7 @@ worked c s h =
     let over = is-over chapters c s h.size in
     let said = (references.examples).worked in
     record {
-      done = rw (over, said) refl;
       rest = rw (over, said) refl;
-      extra = rw (over, said) refl;
       names = λ j. rw said at (header-view chapters (bytes chapters refl) c s h j);
     }
 
@@ -65,13 +62,13 @@ pub record Examples : Type 0 where
   pub filled : (leaves (131 ∷ 68 ∷ 1 ∷ 8 ∷ 5 ∷ 1 ∷ 97 ∷ [])).cache.filled ≡ 32 ∷ 0 ∷ 0 ∷ 0 ∷ []
   pub both_filled : (leaves (131 ∷ 68 ∷ 2 ∷ 136 ∷ 0 ∷ 5 ∷ 1 ∷ 97 ∷ 6 ∷ 1 ∷ 98 ∷ [])).cache.filled ≡ 96 ∷ 0 ∷ 0 ∷ 0 ∷ []
   -- a later fault keeps the names before it
-  pub kept-filled : leaves (131 ∷ 68 ∷ 2 ∷ 136 ∷ 0 ∷ 5 ∷ 1 ∷ 97 ∷ 6 ∷ 1 ∷ []) ≡ record { number = number.Eof; rest = 0; extra = 0; cache = record { filled = 32 ∷ 0 ∷ 0 ∷ 0 ∷ [] } }
+  pub kept-filled : leaves (131 ∷ 68 ∷ 2 ∷ 136 ∷ 0 ∷ 5 ∷ 1 ∷ 97 ∷ 6 ∷ 1 ∷ []) ≡ record { rest = Err refusal.Eof; cache = record { filled = 32 ∷ 0 ∷ 0 ∷ 0 ∷ [] } }
   -- 255 bytes are stored, 256 are not; what is no text is Text first
-  pub largest : leaves (131 ∷ 68 ∷ 1 ∷ 24 ∷ 5 ∷ 0 ∷ 255 ∷ replicate 255 97) ≡ record { number = 0; rest = 262; extra = 0; cache = record { filled = 32 ∷ 0 ∷ 0 ∷ 0 ∷ [] } }
-  pub larger : (leaves (131 ∷ 68 ∷ 1 ∷ 24 ∷ 5 ∷ 1 ∷ 0 ∷ replicate 256 97)).number ≡ number.Name
-  pub text-first : (leaves (131 ∷ 68 ∷ 1 ∷ 24 ∷ 5 ∷ 1 ∷ 0 ∷ replicate 255 97 ++ (255 ∷ []))).number ≡ number.Text
+  pub largest : leaves (131 ∷ 68 ∷ 1 ∷ 24 ∷ 5 ∷ 0 ∷ 255 ∷ replicate 255 97) ≡ record { rest = Ok 262; cache = record { filled = 32 ∷ 0 ∷ 0 ∷ 0 ∷ [] } }
+  pub larger : (leaves (131 ∷ 68 ∷ 1 ∷ 24 ∷ 5 ∷ 1 ∷ 0 ∷ replicate 256 97)).rest ≡ Err refusal.Name
+  pub text-first : (leaves (131 ∷ 68 ∷ 1 ∷ 24 ∷ 5 ∷ 1 ∷ 0 ∷ replicate 255 97 ++ (255 ∷ []))).rest ≡ Err refusal.Text
   -- a store of another size is judged before all
-  pub store : (header_over (130 ∷ []) (record { filled = replicate 4 0 }) []).number ≡ number.Store
+  pub store : (header_over (130 ∷ []) (record { filled = replicate 4 0 }) []).rest ≡ Err refusal.Store
 
 pub examples : Examples
 unfolding header_over put_all after put header_of opened start_of flagged references behind reference_at new_at named long_bit is_new new_in half_byte half_of byte_then number_then row.name row.bytes marked holds field_at be_at be good_bytes good_from char_bytes decode scalar encode starts

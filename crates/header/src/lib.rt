@@ -8,118 +8,88 @@
 
 #![tactic(auto)]
 
-ghost use Rattle.std.specs.Prelude.{◌≡◌, cond, ◌+◌, ◌/◌, ◌<◌, ◌≤◌, length};
-ghost use Rattle.references.specs.Header.{references};
-ghost use Rattle.names.specs.Form.{over};
-ghost use Rattle.cache.specs.Names.{marked, stored, store_bytes, slots};
-ghost use Rattle.header.specs.Header.{header_over, answer_of};
+ghost use Rattle.std.specs.Prelude.{◌≡◌, ◌<◌, length};
+ghost use Rattle.references.specs.Inner.Known.{Flagged};
+ghost use Rattle.names.specs.Form.{left};
+ghost use Rattle.cache.specs.Names.{stored, store_bytes};
+ghost use Rattle.header.specs.Header.{header_over, referred_over, answer_of};
 
 use cache::{Cache, SLOT_BYTES, STORE_BYTES};
+use numbers::Refusal;
 use references::{FLAGS, Opening, Reference};
 
-// What a header answers: the number (0 is Done), where the rest begins (0 when refused), the extra, and the cache's record now.
-#[derive(Clone, Copy)]
+// What a header answers: where the rest begins, or why it is refused, and the cache's record now.
+#[derive(Clone, Copy, PartialEq, Eq)]
 pub struct HeaderRead {
-    pub number: u64,
-    pub rest: usize,
-    pub extra: u64,
+    pub rest: Result<usize, Refusal>,
     pub cache: Cache,
 }
 
 // Reads an atom header, 131, 68, the count of references, flags and references, and answers where what follows it begins. Each new name
 // is stored when it is complete; a later fault keeps it. Refused: Store, Long, then Eof, Tag, Kind with that byte, and for a name Eof,
 // Text, Name.
-pub fn read(b: &[u8], c: Cache, store: &mut [u8]) -> HeaderRead
-    ensures answer { result ≡ answer_of (header_over b.now c store.old) }
-    ensures store { store.new ≡ (header_over b.now c store.old).cache.store }
+pub fn read(b: &[u8], cache: Cache, store: &mut [u8]) -> HeaderRead
+    ensures answer { result ≡ answer_of (header_over b.now cache store.old) }
+    ensures store { store.new ≡ (header_over b.now cache store.old).cache.store }
 {
     if store.len() != STORE_BYTES {
-        return refusal(numbers::STORE, 0, c);
+        return HeaderRead {
+            rest: Err(Refusal::Store),
+            cache,
+        };
     }
-    let start = references::start(b);
-    match start {
-        Opening::At(n, long, p) => names(b, n, long, p, c, store),
-        Opening::No(number, extra) => refusal(number, extra, c),
+    match references::start(b) {
+        Ok(opening) => names(b, opening, cache, store),
+        Err(why) => HeaderRead {
+            rest: Err(why),
+            cache,
+        },
     }
 }
 
-// n references over the cache, of which the first stands at `first`; a length has two bytes where `long`, else one. For a caller that has read how the
-// header begins, by references::start.
-pub fn names(b: &[u8], n: usize, long: bool, first: usize, c: Cache, store: &mut [u8]) -> HeaderRead
-    requires { (n < 256) × ((3 + (n + 1) / 2 ≤ length b.now) × (length store.old ≡ store_bytes)) }
-    ensures answer { result ≡ answer_of (over slots b.now (references b.now (cond long 2 1) 0 n first) (record { cache = c; store = store.old })) }
-    ensures store { store.new ≡ (over slots b.now (references b.now (cond long 2 1) 0 n first) (record { cache = c; store = store.old })).cache.store }
+// The references of a header over the cache. For a caller that has read how the header begins, by references::start.
+pub fn names(b: &[u8], opening: Opening, cache: Cache, store: &mut [u8]) -> HeaderRead
+    requires flags { Flagged b.now opening }
+    requires store { length store.old ≡ store_bytes }
+    ensures answer { result ≡ answer_of (referred_over b.now opening cache store.old) }
+    ensures store { store.new ≡ (referred_over b.now opening cache store.old).cache.store }
 {
-    let mut cache = c;
-    let mut p = first;
-    let mut i = 0;
-    while i < n {
+    let mut now = cache;
+    let rest = fill(b, opening, &mut now, store);
+    HeaderRead { rest, cache: now }
+}
+
+// The same of a cache that is changed: where the rest begins.
+fn fill(b: &[u8], opening: Opening, cache: &mut Cache, store: &mut [u8]) -> Result<usize, Refusal>
+    requires flags { Flagged b.now opening }
+    requires store { length store.old ≡ store_bytes }
+    ensures { referred_over b.now opening cache.old store.old ≡ left result (record { cache = cache.new; store = store.new }) }
+{
+    let mut p = opening.first;
+    for i in 0..opening.count {
         let new = references::is_new(b[FLAGS + i / 2], i);
-        let r = references::reference_at(b, new, long, p);
-        match r {
-            Reference::Old(_) => {
-                p += 1;
-                i += 1;
-            }
-            Reference::New(slot, from, len) => {
+        match references::reference_at(b, new, opening.long, p)? {
+            Reference::Old(_) => p += 1,
+            Reference::New(slot, at, len) => {
                 if 255 < len {
-                    return refusal(numbers::NAME, 0, cache);
+                    return Err(Refusal::Name);
                 }
-                let end = from + len;
-                let into = slot as usize;
-                put(&b[from..end], into, store);
-                mark(&mut cache.filled, into);
-                p = end;
-                i += 1;
+                p = at + len;
+                put(&b[at..p], slot, store);
+                cache.mark(slot);
             }
-            Reference::No(number, extra) => return refusal(number, extra, cache),
         }
     }
-    answer(p, cache)
+    Ok(p)
 }
 
-// Stores a name in its slot: its length and its bytes.
-fn put(name: &[u8], slot: usize, store: &mut [u8])
-    requires { (slot < 256) × ((length name.now < 256) × (length store.old ≡ store_bytes)) }
+// Stores a name in its slot: its length and its bytes. (The store stays a slice with a clause of its length: so C lends it, and `read` refuses another.)
+fn put(name: &[u8], slot: u8, store: &mut [u8])
+    requires name { length name.now < 256 }
+    requires store { length store.old ≡ store_bytes }
     ensures { store.new ≡ stored store.old slot name.now }
 {
-    let at = slot * SLOT_BYTES;
+    let at = usize::from(slot) * SLOT_BYTES;
     store[at] = name.len() as u8;
-    let mut i = 0;
-    while i < name.len() {
-        store[at + 1 + i] = name[i];
-        i += 1;
-    }
-}
-
-// Notes that a slot is filled.
-fn mark(filled: &mut [u64; 4], slot: usize)
-    requires { slot < 256 }
-    ensures { filled.new ≡ marked filled.old slot }
-{
-    let word = slot / 64;
-    filled[word] = filled[word] | (1u64 << (slot % 64));
-}
-
-// What a header answers that is read to its end, and one that is refused.
-fn answer(rest: usize, c: Cache) -> HeaderRead
-    ensures { result ≡ record { number = 0; rest = rest; extra = 0; cache = c } }
-{
-    HeaderRead {
-        number: 0,
-        rest,
-        extra: 0,
-        cache: c,
-    }
-}
-
-fn refusal(number: u64, extra: u64, c: Cache) -> HeaderRead
-    ensures { result ≡ record { number = number; rest = 0; extra = extra; cache = c } }
-{
-    HeaderRead {
-        number,
-        rest: 0,
-        extra,
-        cache: c,
-    }
+    store[at + 1..at + 1 + name.len()].copy_from_slice(name);
 }

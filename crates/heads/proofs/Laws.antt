@@ -1,49 +1,32 @@
--- Which answers name a run of bytes, and what the last arm of a match on an answer says. Assumes nothing.
-use Prim.Native.Nat.{ℕ}
-use mathlib.Core.Path.{◌≡◌, refl}
-use mathlib.Core.List.{List, []}
-use Rattle.heads.specs.Inner.Run.{none, run_of, part_of}
-use Rattle.heads.specs.Inner.Head.{named}
-use Rattle.heads.specs.declared.Value.{Value}
+-- What a `?` hands on, and the names of atoms, whose length has two bytes under two tags. Assumes nothing.
+use Prim.Native.Nat.{ℕ, ◌+◌, ◌<◌}
+use mathlib.Core.Path.{◌≡◌, ap}
+use mathlib.Core.List.{List}
+use mathlib.Core.Logic.{◌⊎◌, inl, inr}
+use borrow.Author.Tests.{lt-ltb}
+use lib.ListN.{length, get_or}
+use Rattle.std.specs.Prelude.{Result, Ok, Err}
+use Rattle.std.specs.Result.{IsErr, IsErrAnd}
+use Rattle.rows.specs.Layout as layout
+use Rattle.heads.specs.Inner.Head.{behind, fixed, if_there, node}
 use Rattle.heads.specs.declared.Value.TheVariants as value
 
--- an answer is an atom's, a binary's, a refusal, or none of these
-module _ (P : Value → Type 0) (atom : (s n : ℕ) → P (value.Atom s n)) (binary : (s n : ℕ) → P (value.Binary s n)) (no : (n o x : ℕ) → P (value.No n o x)) (other : (v : Value) → run_of v ≡ none → P v) where
-  pub by_run : (v : Value) → P v
-  by_run (value.Atom s n) = atom s n
-  by_run (value.Binary s n) = binary s n
-  by_run (value.Integer z) = other (value.Integer z) refl
-  by_run (value.NumberText p n) = other (value.NumberText p n) refl
-  by_run (value.Double x n) = other (value.Double x n) refl
-  by_run (value.Tuple n) = other (value.Tuple n) refl
-  by_run value.Nil = other value.Nil refl
-  by_run (value.String p n) = other (value.String p n) refl
-  by_run (value.List n) = other (value.List n) refl
-  by_run (value.BitString p n k) = other (value.BitString p n k) refl
-  by_run (value.Big p n s g) = other (value.Big p n s g) refl
-  by_run (value.Map n) = other (value.Map n) refl
-  by_run (value.Pid p n i j k) = other (value.Pid p n i j k) refl
-  by_run (value.Reference i p n j q) = other (value.Reference i p n j q) refl
-  by_run (value.Port p n i j) = other (value.Port p n i j) refl
-  by_run value.Export = other value.Export refl
-  by_run (value.Function i j p k l) = other (value.Function i j p k l) refl
-  by_run (value.No n o x) = no n o x
+pub handed : {T E : Type 0} (r : Result T E) {e : E} → IsErr r × IsErrAnd r (λ x. x ≡ e) → r ≡ Err e
+handed (Err x) h = ap Err h.1
+handed (Ok x) h = absurd h.1
 
--- what is no Atom, and what is neither Atom nor Binary
-pub not_named : (f : ℕ → ℕ → Value) (v : Value) → ((s n : ℕ) → v ≡ value.Atom s n → ⊥) → v ≡ named v f
-unfolding named
-not_named f =
-    by_run (λ (v : Value). ((s n : ℕ) → v ≡ value.Atom s n → ⊥) → v ≡ named v f)
-    (λ s n k. absurd (k s n refl))
-    (λ s n k. refl)
-    (λ n o x k. refl)
-    (λ v e k. rw e)
+pub fixed-name : (b : List ℕ) (tag p : ℕ) → (tag ≡ 100) ⊎ (tag ≡ 118) → fixed b tag p ≡ value.Atom (behind 2 b p)
+unfolding fixed
+fixed-name b tag p (inl e) = rw e
+fixed-name b tag p (inr e) = rw e
 
-pub no_part : (b : List ℕ) (v : Value) → ((s n : ℕ) → v ≡ value.Atom s n → ⊥) → ((s n : ℕ) → v ≡ value.Binary s n → ⊥) → [] ≡ part_of b (run_of v)
-unfolding part_of
-no_part b =
-    by_run (λ (v : Value). ((s n : ℕ) → v ≡ value.Atom s n → ⊥) → ((s n : ℕ) → v ≡ value.Binary s n → ⊥) → [] ≡ part_of b (run_of v))
-    (λ s n j k. absurd (j s n refl))
-    (λ s n j k. absurd (k s n refl))
-    (λ n o x j k. refl)
-    (λ v e j k. rw e)
+-- an atom child that is there, by its tag
+module _ (b : List ℕ) (c : ℕ) (h : c < length b) where
+  pub node-name : (get_or b c 0 ≡ 100) ⊎ (get_or b c 0 ≡ 118) → node b c ≡ if_there (layout.row_at b (get_or b c 0) (c + 1)) c (behind 2 b (c + 1))
+  unfolding node
+  node-name (inl e) = rw (lt-ltb c (length b) h, e)
+  node-name (inr e) = rw (lt-ltb c (length b) h, e)
+
+  pub node-short : get_or b c 0 ≡ 119 → node b c ≡ if_there (layout.row_at b (get_or b c 0) (c + 1)) c (behind 1 b (c + 1))
+  unfolding node
+  node-short e = rw (lt-ltb c (length b) h, e)

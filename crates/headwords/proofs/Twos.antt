@@ -1,19 +1,12 @@
--- An integer's two's complement, by its distance above zero or below minus one. Assumes nothing.
-use Prim.Native.Nat.{ℕ, ◌-◌}
+-- The bits of an integer are its two's complement. Assumes nothing.
 use native.Mathlib.Omega.{arith}
-use mathlib.Core.Path.{◌≡◌, refl, ap}
-use mathlib.Core.Bool.{Bool, true, false, cond}
+use mathlib.Core.Path.{◌≡◌, refl}
 use lib.IntN.{ℤ, pos, negsuc}
-use lib.Signed.{mag, lt_z}
-use borrow.Author.Tests.{ltb-true}
+use mir.Syntax.{w64}
+use mir.Val.{of_z}
 use Rattle.headwords.specs.Words.{twos}
 
-pub twos-below : (z : ℤ) → lt_z z (pos 0) ≡ true → 18446744073709551615 - mag z ≡ twos z
+pub bits-are : (z : ℤ) → of_z w64 z ≡ twos z
 unfolding twos
-twos-below (pos n) h = absurd (omega (arith, ltb-true n 0 h))
-twos-below (negsuc n) h = refl
-
-pub twos-above : (z : ℤ) → lt_z z (pos 0) ≡ false → mag z ≡ twos z
-unfolding twos
-twos-above (pos n) h = refl
-twos-above (negsuc n) h = absurd (omega (arith, ap {B = ℕ} (λ (x : Bool). cond x 1 0) h))
+bits-are (pos n) = refl
+bits-are (negsuc n) = omega arith

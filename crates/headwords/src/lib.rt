@@ -2,9 +2,9 @@
 
 #![tactic(auto)]
 
-ghost use Rattle.std.specs.Prelude.{◌≡◌, cond};
+ghost use Rattle.std.specs.Prelude.{◌≡◌};
 ghost use Rattle.heads.specs.Inner.Run.{run_of, placed};
-ghost use Rattle.headwords.specs.Words.{twos, head_words, part_words};
+ghost use Rattle.headwords.specs.Words.{head_words, value_words, part_words};
 
 use heads::{Headed, Value};
 
@@ -12,35 +12,124 @@ use heads::{Headed, Value};
 pub fn words(h: Headed) -> [u64; 9]
     ensures { result ≡ head_words h }
 {
-    let tag = h.tag as u64;
-    let value = h.value;
+    let tag = u64::from(h.tag);
+    match h.value {
+        Ok(value) => value_words(tag, value),
+        Err(e) => [
+            e.why.number(),
+            tag,
+            e.offset as u64,
+            e.why.extra(),
+            0,
+            0,
+            0,
+            0,
+            0,
+        ],
+    }
+}
+
+fn value_words(tag: u64, value: Value) -> [u64; 9]
+    ensures { result ≡ value_words tag value }
+{
     match value {
-        Value::Integer(z) => [0, tag, 0, 0, bits(z), 0, 0, 0, 0],
-        Value::NumberText(p, n) => [0, tag, 0, 0, p as u64, n as u64, 0, 0, 0],
-        Value::Double(_, x) => [0, tag, 0, 0, x, 0, 0, 0, 0],
-        Value::Atom(p, n) => [0, tag, 0, 0, p as u64, n as u64, 0, 0, 0],
-        Value::Tuple(n) => [0, tag, 0, 0, n, 0, 0, 0, 0],
-        Value::Nil => [0, tag, 0, 0, 0, 0, 0, 0, 0],
-        Value::String(p, n) => [0, tag, 0, 0, p as u64, n as u64, 0, 0, 0],
-        Value::List(n) => [0, tag, 0, 0, n, 0, 0, 0, 0],
-        Value::Binary(p, n) => [0, tag, 0, 0, p as u64, n as u64, 0, 0, 0],
-        Value::BitString(p, n, k) => [0, tag, 0, 0, p as u64, n as u64, k, 0, 0],
-        Value::Big(p, n, sign, negative) => {
-            [0, tag, 0, 0, p as u64, n as u64, sign, one(negative), 0]
+        Value::Integer(z) => [0, tag, 0, 0, z.cast_unsigned(), 0, 0, 0, 0],
+        Value::Double(_, bits) => [0, tag, 0, 0, bits, 0, 0, 0, 0],
+        Value::NumberText(r) | Value::Atom(r) | Value::String(r) | Value::Binary(r) => {
+            [0, tag, 0, 0, r.at as u64, r.len as u64, 0, 0, 0]
         }
-        Value::Map(n) => [0, tag, 0, 0, n, 0, 0, 0, 0],
-        Value::Pid(p, n, id, serial, creation) => {
-            [0, tag, 0, 0, p as u64, n as u64, id, serial, creation]
+        Value::Tuple(n) | Value::List(n) | Value::Map(n) => [0, tag, 0, 0, n, 0, 0, 0, 0],
+        Value::Nil | Value::Export => [0, tag, 0, 0, 0, 0, 0, 0, 0],
+        Value::BitString { bytes, bits } => {
+            [
+                0,
+                tag,
+                0,
+                0,
+                bytes.at as u64,
+                bytes.len as u64,
+                u64::from(bits),
+                0,
+                0,
+            ]
         }
-        Value::Reference(k, p, n, creation, ids) => {
-            [0, tag, 0, 0, k, p as u64, n as u64, creation, ids as u64]
+        Value::Big {
+            digits,
+            sign,
+            negative,
+        } => [
+            0,
+            tag,
+            0,
+            0,
+            digits.at as u64,
+            digits.len as u64,
+            u64::from(sign),
+            u64::from(negative),
+            0,
+        ],
+        Value::Pid {
+            node,
+            id,
+            serial,
+            creation,
+        } => [
+            0,
+            tag,
+            0,
+            0,
+            node.at as u64,
+            node.len as u64,
+            u64::from(id),
+            u64::from(serial),
+            u64::from(creation),
+        ],
+        Value::Reference {
+            count,
+            node,
+            creation,
+            ids,
+        } => [
+            0,
+            tag,
+            0,
+            0,
+            u64::from(count),
+            node.at as u64,
+            node.len as u64,
+            u64::from(creation),
+            ids as u64,
+        ],
+        Value::Port { node, id, creation } => {
+            [
+                0,
+                tag,
+                0,
+                0,
+                node.at as u64,
+                node.len as u64,
+                id,
+                u64::from(creation),
+                0,
+            ]
         }
-        Value::Port(p, n, id, creation) => [0, tag, 0, 0, p as u64, n as u64, id, creation, 0],
-        Value::Export => [0, tag, 0, 0, 0, 0, 0, 0, 0],
-        Value::Function(size, arity, p, index, free) => {
-            [0, tag, 0, 0, size, arity, p as u64, index, free]
-        }
-        Value::No(number, offset, extra) => [number, tag, offset as u64, extra, 0, 0, 0, 0, 0],
+        Value::Function {
+            size,
+            arity,
+            unique,
+            index,
+            free,
+        } => [
+            0,
+            tag,
+            0,
+            0,
+            u64::from(size),
+            u64::from(arity),
+            unique as u64,
+            u64::from(index),
+            u64::from(free),
+        ],
     }
 }
 
@@ -48,28 +137,8 @@ pub fn words(h: Headed) -> [u64; 9]
 pub fn place(h: Headed) -> [u64; 2]
     ensures { result ≡ part_words (placed (run_of h.value)) }
 {
-    let value = h.value;
-    match value {
-        Value::Atom(p, n) => [p as u64, n as u64],
-        Value::Binary(p, n) => [p as u64, n as u64],
-        _ => [0, 0],
-    }
-}
-
-// A truth as a number.
-fn one(truth: bool) -> u64
-    ensures { result ≡ cond truth 1 0 }
-{
-    if truth { 1 } else { 0 }
-}
-
-// Two's complement. No operation takes a negative integer to its bits, so what it is below -1 is taken off the largest word.
-fn bits(z: i64) -> u64
-    ensures { result ≡ twos z }
-{
-    if z < 0 {
-        18446744073709551615 - ((-1 - z) as u64)
-    } else {
-        z as u64
+    match h.run() {
+        Some(run) => [run.at as u64, run.len as u64],
+        None => [0, 0],
     }
 }

@@ -4,23 +4,22 @@
 
 #![tactic(auto)]
 
+ghost use Rattle.std.specs.Prelude.{IfOk, ◌≤◌, length};
+
+use std::io;
 use std::io::{Read, Stdin};
 
-// Instead of a number of bytes: reading failed.
-pub const FAILED: usize = usize::MAX;
-
-// Reads until the buffer is full or the input ends, and answers how many bytes that is, or FAILED.
-pub fn fill(stdin: Stdin, buf: &mut [u8]) -> usize {
-    let mut input = stdin;
+// Reads until the buffer is full or the input ends, and answers how many bytes that is. What std has for this needs a heap.
+pub fn fill(mut input: Stdin, buf: &mut [u8]) -> io::Result<usize>
+    ensures { IfOk result (λ n. n ≤ length buf.old) }
+{
     let mut n = 0;
     while n < buf.len() {
-        let Ok(more) = input.read(&mut buf[n..]) else {
-            return FAILED;
-        };
+        let more = input.read(&mut buf[n..])?;
         if more == 0 {
             break;
         }
         n += more;
     }
-    n
+    Ok(n)
 }

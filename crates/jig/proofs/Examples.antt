@@ -16,11 +16,9 @@ use Rattle.numbers.specs.Numbers as number
 use Rattle.numbers.specs.Bits as bits
 use Rattle.rows.specs.Row as row
 use Rattle.rows.specs.Layout as layout
-use Rattle.heads.specs.declared.Headed.{Headed}
-use Rattle.heads.specs.Inner.Run.{run_of, placed}
 use Rattle.heads.specs.Inner.Head as head
 use Rattle.agree.specs.Head.{run_at}
-use Rattle.agree.proofs.HeadIs.{head-is, run_is}
+use Rattle.agree.proofs.HeadIs.{run_is}
 use Rattle.cache.specs.declared.Cache.{Cache}
 use Rattle.cache.specs.Names.{store_bytes, filled, count_of, got_at, slots}
 use Rattle.cache.specs.declared.Cache.{Cache}
@@ -30,7 +28,7 @@ use Rattle.header.specs.Header.{header_over, answer_of}
 use Rattle.cache.proofs.Examples as cache
 use Rattle.positions.specs.Positions.{position_in, cell_in}
 use Rattle.positions.proofs.Examples as positions
-use Rattle.reading.specs.declared.Answer.{Answer}
+use Rattle.reading.specs.Told.{Told}
 use Rattle.tape.specs.Read.{Promised}
 use Rattle.message.specs.Message.{message_before}
 use Rattle.message.proofs.Examples as message
@@ -52,7 +50,7 @@ no-interface h = omega arith
 -- sill_part: the bytes of a string are no part. A call that hands out every run says 3 and 1
 pub string-part : part_words (run_at (107 ∷ 0 ∷ 1 ∷ 97 ∷ []) 0) ≡ 0 ∷ 0 ∷ []
 unfolding head.head_at head.term head.row_value head.fixed layout.row_at number_then row.bytes holds field_at be_at be
-string-part = ap part_words (sym (run_is _ 0) ∙ ap (λ (h : Headed). placed (run_of h.value)) (sym (head-is (107 ∷ 0 ∷ 1 ∷ 97 ∷ []) 0)))
+string-part = ap part_words (sym (run_is (107 ∷ 0 ∷ 1 ∷ 97 ∷ []) 0))
 
 -- sill_empty: a call that fills the last slot, and one that leaves the words of a cache with names
 abbrev of : List ℕ → Cache
@@ -101,7 +99,7 @@ module _ (s : List ℕ) (h : length s ≡ store_bytes) {told path new old tape :
   pub message_done : Tells (λ r. Promised (message_before slots (131 ∷ 68 ∷ 1 ∷ 8 ∷ 5 ∷ 1 ∷ 97 ∷ 82 ∷ 0 ∷ []) (message.leaves s h (131 ∷ 68 ∷ 1 ∷ 8 ∷ 5 ∷ 1 ∷ 97 ∷ 82 ∷ 0 ∷ []))) (131 ∷ 68 ∷ 1 ∷ 8 ∷ 5 ∷ 1 ∷ 97 ∷ 82 ∷ 0 ∷ []) 64 r old tape) told path new →
       5 ≤ length old → get_or told 0 0 ≡ number.Done
   unfolding message.answers
-  message_done f k = rw f.shows (ap (λ (a : Answer). a.number) f.promised.answered ∙ message.by_position s h (length old) k)
+  message_done f k = rw f.shows (ap (λ (a : Told). a.number) f.promised.answered ∙ message.by_position s h (length old) k)
 
 -- sill_position and sill_atom, of a store of which slots 0 and 1 begin 1 97 and 1 98, and a header of two references, to slot 1 and to slot 0: a call
 -- that takes a position for a slot tells the other name; one that asks no count tells a third; one that takes the tag for the position tells none

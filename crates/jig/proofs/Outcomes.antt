@@ -2,64 +2,78 @@
 use Prim.Native.Nat.{ℕ}
 use mathlib.Core.Path.{subst}
 use mathlib.Core.List.{List, [], ◌∷◌}
-use Rattle.numbers.proofs.Laws.{outcome, Shown, listed_shown}
-use Rattle.reading.specs.declared.Answer.{Answer}
+use Rattle.std.specs.Prelude.{Result, Ok, Err}
+use Rattle.numbers.specs.Refusal.{number_of}
+use Rattle.numbers.specs.declared.Refusal.{Refusal}
+use Rattle.numbers.proofs.Laws.{outcome, Shown, listed_shown, refusal_listed}
+use Rattle.reading.specs.Told.{Told}
 use Rattle.heads.specs.Inner.Head.{head_at}
+use Rattle.heads.specs.Told as heads
+use Rattle.heads.specs.Told.{told, told_head}
+use Rattle.heads.specs.declared.Refused.{Refused}
 use Rattle.heads.specs.declared.Headed.{Headed}
 use Rattle.heads.specs.declared.Value.{Value}
 use Rattle.heads.specs.declared.Value.TheVariants as value
-use Rattle.heads.proofs.Outcomes.{value_outcome, head-shown}
 use Rattle.agree.specs.Head.{head_of}
 use Rattle.agree.proofs.HeadIs.{head-is}
-use Rattle.cache.specs.Names.{got_at}
-use Rattle.cache.specs.declared.Got.{Got}
-use Rattle.cache.specs.declared.Got.TheVariants as got
-use Rattle.positions.specs.Positions.{position_in, cell_in}
-use Rattle.positions.proofs.Outcomes.{position-shown, cell-shown}
-use Rattle.cache.proofs.Outcomes.{got_outcome, got_shown}
-use Rattle.jig.specs.Shown.{Tells, name_words}
-use Rattle.headwords.specs.Words.{value_words, head_words}
+use Rattle.cache.specs.declared.Name.{Name}
+use Rattle.fragments.specs.declared.FirstFragment.{FirstFragment}
+use Rattle.fragments.specs.declared.NextFragment.{NextFragment}
+use Rattle.jig.specs.Shown.{Tells, name_words, place_words, first_words, next_words}
+use Rattle.headwords.specs.Words.{value_words, told_words, head_words}
 
 -- numbers told, the first of which is Done or the number of a refusal
 abbrev pub FirstShown : List ℕ → Type 0
 FirstShown [] = ⊥
 FirstShown (n ∷ l) = Shown (outcome n)
 
-pub answer-told : {P : Answer → Type 0} {told old new : List ℕ} → ((r : Answer) → P r → Shown (outcome r.number)) → Tells P told old new → FirstShown told
+pub answer-told : {P : Told → Type 0} {told old new : List ℕ} → ((r : Told) → P r → Shown (outcome r.number)) → Tells P told old new → FirstShown told
 answer-told h t = rw t.shows (h t.answer t.promised)
 
-value-told : (tag : ℕ) (v : Value) → Shown (value_outcome v) → FirstShown (value_words tag v)
-value-told tag (value.Integer z) h = tt
-value-told tag (value.NumberText p n) h = tt
-value-told tag (value.Double x bits) h = tt
-value-told tag (value.Atom p n) h = tt
-value-told tag (value.Tuple n) h = tt
-value-told tag value.Nil h = tt
-value-told tag (value.String p n) h = tt
-value-told tag (value.List n) h = tt
-value-told tag (value.Binary p n) h = tt
-value-told tag (value.BitString p n k) h = tt
-value-told tag (value.Big p n sign negative) h = tt
-value-told tag (value.Map n) h = tt
-value-told tag (value.Pid p n id serial creation) h = tt
-value-told tag (value.Reference k p n creation ids) h = tt
-value-told tag (value.Port p n id creation) h = tt
-value-told tag value.Export h = tt
-value-told tag (value.Function size arity p index free) h = tt
-value-told tag (value.No number offset extra) h = listed_shown number h
+why_told : (r : Refusal) → Shown (outcome (number_of r))
+why_told r = listed_shown (number_of r) (refusal_listed r)
 
-got_told : (g : Got) → Shown (got_outcome g) → FirstShown (name_words g)
-got_told (got.Name p n) h = tt
-got_told (got.No number) h = listed_shown number h
+value-told : (tag : ℕ) (v : Value) → FirstShown (value_words tag v)
+value-told tag (value.Integer z) = tt
+value-told tag (value.NumberText r) = tt
+value-told tag (value.Double x bits) = tt
+value-told tag (value.Atom r) = tt
+value-told tag (value.Tuple n) = tt
+value-told tag value.Nil = tt
+value-told tag (value.String r) = tt
+value-told tag (value.List n) = tt
+value-told tag (value.Binary r) = tt
+value-told tag (value.BitString r k) = tt
+value-told tag (value.Big r sign negative) = tt
+value-told tag (value.Map n) = tt
+value-told tag (value.Pid r id serial creation) = tt
+value-told tag (value.Reference k r creation ids) = tt
+value-told tag (value.Port r id creation) = tt
+value-told tag value.Export = tt
+value-told tag (value.Function size arity p index free) = tt
 
-pub head-told : (b : List ℕ) (at : ℕ) → FirstShown (head_words (head_of b at))
-head-told b at = subst (λ (h : Headed). FirstShown (head_words h)) (head-is b at) (value-told (head_at b at).tag (head_at b at).value (head-shown b at))
+words-told : (h : Headed) → FirstShown (head_words h)
+words-told h = go h.value
+  where
+    go : (v : Result Value Refused) → FirstShown (told_words (h.tag, told v))
+    go (Ok v) = value-told h.tag v
+    go (Err e) = why_told e.why
 
-pub position-told : (words store run : List ℕ) (k : ℕ) → FirstShown (name_words (position_in words store run k))
-position-told words store run k = got_told (position_in words store run k) (position-shown words store run k)
+pub head-told : (b : List ℕ) (at : ℕ) → FirstShown (told_words (head_of b at))
+head-told b at = subst (λ (h : ℕ × heads.Told). FirstShown (told_words h)) (head-is b at) (words-told (head_at b at))
 
-pub atom-told : (b words store run : List ℕ) (at : ℕ) → FirstShown (name_words (cell_in b words store run at))
-atom-told b words store run at = got_told (cell_in b words store run at) (cell-shown words store run b at)
+pub name-told : (found : Result Name Refusal) → FirstShown (name_words found)
+name-told (Ok n) = tt
+name-told (Err r) = why_told r
 
-pub name-told : (words store : List ℕ) (i : ℕ) → FirstShown (name_words (got_at words store i))
-name-told words store i = got_told (got_at words store i) (got_shown words store i)
+pub place-told : (found : Result ℕ Refusal) → FirstShown (place_words found)
+place-told (Ok n) = tt
+place-told (Err r) = why_told r
+
+pub first-told : (found : Result FirstFragment Refusal) → FirstShown (first_words found)
+first-told (Ok f) = tt
+first-told (Err r) = why_told r
+
+pub next-told : (found : Result NextFragment Refusal) → FirstShown (next_words found)
+next-told (Ok f) = tt
+next-told (Err r) = why_told r

@@ -3,8 +3,9 @@ use mathlib.Core.Path.{◌≡◌, refl}
 use mathlib.Core.List.{List}
 use Prim.Native.Nat.{ℕ}
 use lib.ListN.{get_or, take, drop}
-use Rattle.cache.specs.declared.Got.{Got}
-use Rattle.cache.specs.declared.Got.TheVariants as got
+use Rattle.std.specs.Prelude.{Result, Ok, Err}
+use Rattle.numbers.specs.declared.Refusal.{Refusal}
+use Rattle.cache.specs.declared.Name.{Name}
 use Rattle.cache.specs.Names as names
 use Rattle.agree.specs.Head.{run_at, part}
 use Rattle.headwords.specs.Words.{part_words}
@@ -16,6 +17,6 @@ unfolding part
 part-told b at = refl
 
 -- and of a name in the store
-pub name-told : (store : List ℕ) (g : Got) → take (get_or (name_words g) 2 0) (drop (get_or (name_words g) 1 0) store) ≡ names.part_of store g
-name-told store (got.Name p n) = refl
-name-told store (got.No number) = refl
+pub name-told : (store : List ℕ) (g : Result Name Refusal) → take (get_or (name_words g) 2 0) (drop (get_or (name_words g) 1 0) store) ≡ names.part_of store g
+name-told store (Ok n) = refl
+name-told store (Err r) = refl

@@ -1,4 +1,5 @@
-// The jig: the calls that a program in another language makes. Everything is lent, as runs of numbers, and every answer is told as numbers.
+// The jig: the calls that a program in another language makes. Everything is lent, as runs of numbers, and every answer is told as numbers. Runs that
+// always come together are lent apart, each as a parameter: this is C's interface, and jig/sillthread.h has it so.
 //
 // It stands over all that reads and writes, and judges nothing itself. A call's promise is that of the call beneath it; specs/ says, in one definition
 // for each kind of answer, how the answer becomes numbers. jig/sillthread.h is the same page for a C program, which gets these calls by the crate jig_c.
@@ -9,6 +10,7 @@ ghost use Rattle.std.specs.Prelude.{◌≡◌, ◌≤◌, length, replicate};
 ghost use Rattle.std.proofs.lemmas.List.Edits.{sets};
 ghost use Rattle.numbers.specs.Caps as cap;
 ghost use Rattle.utf8.specs.Inner.Find.{good_bytes};
+ghost use Rattle.reading.specs.Told.{told_of};
 ghost use Rattle.reading.specs.Answer.{read_at};
 ghost use Rattle.tape.specs.Read.{Promised, Recorded};
 ghost use Rattle.agree.specs.Head.{head_of, run_at};
@@ -21,12 +23,12 @@ ghost use Rattle.message.specs.Message.{message_over, message_before, noted_by};
 ghost use Rattle.fragments.specs.Fragment.{first_at, next_at};
 ghost use Rattle.measure.specs.Item.{items_of};
 ghost use Rattle.writer.specs.Write.{write_over};
-ghost use Rattle.jig.specs.Shown.{interface, answer_words, path_words, Tells, name_words, header_words, first_words, next_words, written_words};
-ghost use Rattle.jig.specs.Shown as spec;
-ghost use Rattle.headwords.specs.Words.{head_words, part_words};
+ghost use Rattle.jig.specs.Shown.{interface, answer_words, path_words, segment_words, Tells, name_words, place_words, header_words, first_words, next_words, written_words};
+ghost use Rattle.headwords.specs.Words.{told_words, part_words};
 
-use cache::{Cache, Got};
-use reading::{Answer, Segment};
+use cache::{Cache, Name};
+use numbers::Refusal;
+use reading::{Answer, Asked, Segment};
 
 // The number of this interface: a C program compares it with that of its header, which may be of another day.
 const INTERFACE: u64 = 1;
@@ -56,7 +58,7 @@ pub fn sill_read(
 pub fn sill_term(b: &[u8], at: usize, limit: usize, told: &mut [u64; 7], path: &mut [u64; 128])
     ensures { Tells (λ r. r ≡ read_at b.now at limit) told.new path.old path.new }
 {
-    let a = terms::read(b, at, reading::plainly(limit));
+    let a = terms::read(b, at, Asked::plainly(limit));
     answer(a, told, path);
 }
 
@@ -93,7 +95,7 @@ pub fn sill_find_number(
 // What stands at a place without its children, as heads::head says. Told are number, tag, offset, extra, then the fields of the head's
 // value in their order, 0 where there are fewer than five: an integer by its two's complement, a double by its bits.
 pub fn sill_head(b: &[u8], at: usize, told: &mut [u64; 9])
-    ensures { told.new ≡ head_words (head_of b.now at) }
+    ensures { told.new ≡ told_words (head_of b.now at) }
 {
     let h = heads::head(b, at);
     *told = headwords::words(h);
@@ -111,8 +113,7 @@ pub fn sill_part(b: &[u8], at: usize, told: &mut [u64; 2])
 pub fn sill_empty(filled: &mut [u64; 4])
     ensures { filled.new ≡ replicate 4 0 }
 {
-    let c = cache::empty();
-    let words = c.filled;
+    let words = Cache::empty().filled;
     *filled = words;
 }
 
@@ -120,17 +121,14 @@ pub fn sill_empty(filled: &mut [u64; 4])
 pub fn sill_count(filled: &[u64; 4]) -> usize
     ensures { result ≡ count_of filled.now }
 {
-    let words = *filled;
-    cache::count(Cache { filled: words })
+    Cache { filled: *filled }.count()
 }
 
 // The name in a slot, as cache::get says. Told are number, its place in the store and its length.
 pub fn sill_get(filled: &[u64; 4], store: &[u8], slot: u8, told: &mut [u64; 3])
     ensures { told.new ≡ name_words (got_at filled.now store.now slot) }
 {
-    let words = *filled;
-    let g = cache::get(Cache { filled: words }, store, slot);
-    *told = name(g);
+    *told = name(Cache { filled: *filled }.get(store, slot));
 }
 
 // Reads an atom header, as header::read does. Told are number, where the rest begins, and extra; the names completed are in the
@@ -140,12 +138,10 @@ pub fn sill_header(b: &[u8], filled: &mut [u64; 4], store: &mut [u8], told: &mut
     ensures marks { filled.new ≡ (header_over b.now (record { filled = filled.old }) store.old).cache.cache.filled }
     ensures stores { store.new ≡ (header_over b.now (record { filled = filled.old }) store.old).cache.store }
 {
-    let words = *filled;
-    let h = header::read(b, Cache { filled: words }, store);
-    let c = h.cache;
-    let marked = c.filled;
-    *filled = marked;
-    *told = [h.number, h.rest as u64, h.extra];
+    let h = header::read(b, Cache { filled: *filled }, store);
+    let left = h.cache.filled;
+    *filled = left;
+    *told = place(h.rest);
 }
 
 // Reads an atom header and one term behind it, and writes the term's tape, as message::read does. Told as by sill_read; the names completed are in
@@ -165,13 +161,10 @@ pub fn sill_message(
     ensures stores { store.new ≡ (message_over b.now limit (record { filled = filled.old }) store.old).cache.store }
     ensures notes { run.new ≡ noted_by b.now (message_over b.now limit (record { filled = filled.old }) store.old) run.old }
 {
-    let words = *filled;
-    let m = message::read(b, limit, Cache { filled: words }, store, run, tape);
-    let c = m.cache;
-    let left = c.filled;
+    let m = message::read(b, limit, Cache { filled: *filled }, store, run, tape);
+    let left = m.cache.filled;
     *filled = left;
-    let a = m.answer;
-    answer(a, told, path);
+    answer(m.answer, told, path);
 }
 
 // The name at a position of the last header that sill_message read to its end, as positions::get says. Told as by sill_get.
@@ -184,9 +177,7 @@ pub fn sill_position(
 )
     ensures { told.new ≡ name_words (position_in filled.now store.now run.now position) }
 {
-    let words = *filled;
-    let g = positions::get(Cache { filled: words }, store, run, position);
-    *told = name(g);
+    *told = name(positions::get(Cache { filled: *filled }, store, run, position));
 }
 
 // The same for the atom of tag 82 at a place, as a cell of tag 82 has it, as positions::get_at says.
@@ -200,32 +191,34 @@ pub fn sill_atom(
 )
     ensures { told.new ≡ name_words (cell_in b.now filled.now store.now run.now at) }
 {
-    let words = *filled;
-    let g = positions::get_at(b, at, Cache { filled: words }, store, run);
-    *told = name(g);
+    *told = name(positions::get_at(b, at, Cache { filled: *filled }, store, run));
 }
 
 // Reads a first fragment's header, as fragments::first does. Told are number, where the rest begins, extra, sequence, fragment and count.
 pub fn sill_first(b: &[u8], told: &mut [u64; 6])
     ensures { told.new ≡ first_words (first_at b.now) }
 {
-    let f = fragments::first(b);
-    *told = [
-        f.number,
-        f.rest as u64,
-        f.extra,
-        f.sequence,
-        f.fragment,
-        f.count,
-    ];
+    *told = match fragments::first(b) {
+        Ok(f) => [
+            numbers::DONE,
+            f.rest as u64,
+            0,
+            f.sequence,
+            f.fragment,
+            f.count,
+        ],
+        Err(why) => [why.number(), 0, why.extra(), 0, 0, 0],
+    };
 }
 
 // The same of a later fragment, as fragments::next does; there is no count.
 pub fn sill_next(b: &[u8], told: &mut [u64; 5])
     ensures { told.new ≡ next_words (next_at b.now) }
 {
-    let f = fragments::next(b);
-    *told = [f.number, f.rest as u64, f.extra, f.sequence, f.fragment];
+    *told = match fragments::next(b) {
+        Ok(f) => [numbers::DONE, f.rest as u64, 0, f.sequence, f.fragment],
+        Err(why) => [why.number(), 0, why.extra(), 0, 0],
+    };
 }
 
 // Writes a row of items as a term, as writer::write does. Told are number, how many bytes were written, and extra.
@@ -233,8 +226,7 @@ pub fn sill_write(row: &[u64], texts: &[u8], out: &mut [u8], told: &mut [u64; 3]
     ensures tells { told.new ≡ written_words (write_over (items_of texts.now row.now) out.old).answer }
     ensures writes { out.new ≡ (write_over (items_of texts.now row.now) out.old).bytes }
 {
-    let w = writer::write(row, texts, out);
-    *told = [w.number, w.len as u64, w.extra];
+    *told = place(writer::write(row, texts, out));
 }
 
 // How many leading bytes of a text form whole good characters, as utf8::good says.
@@ -246,47 +238,66 @@ pub fn sill_utf8(b: &[u8]) -> usize
 
 // The answer of a read or a lookup. The path's words are written only where it has segments: a Done read costs the seven numbers.
 fn answer(a: Answer, told: &mut [u64; 7], path: &mut [u64; 128])
-    requires { a.len ≤ cap.nesting }
-    ensures shows { told.new ≡ answer_words a }
-    ensures traces { path.new ≡ path_words a path.old }
+    requires { (told_of a).len ≤ cap.nesting }
+    ensures shows { told.new ≡ answer_words (told_of a) }
+    ensures traces { path.new ≡ path_words (told_of a) path.old }
 {
-    let n = a.len;
-    *told = [
-        a.number,
-        a.end as u64,
-        a.offset as u64,
-        a.extra,
-        a.begun as u64,
-        a.deepest as u64,
-        n as u64,
-    ];
-    if n != 0 {
-        let segments = a.path;
-        trace(segments, n, path);
+    let begun = a.begun as u64;
+    let deepest = a.deepest as u64;
+    match a.outcome {
+        Ok(done) => {
+            *told = [
+                numbers::DONE,
+                done.end as u64,
+                done.value as u64,
+                0,
+                begun,
+                deepest,
+                0,
+            ];
+        }
+        Err(refused) => {
+            *told = [
+                refused.why.number(),
+                0,
+                refused.offset as u64,
+                refused.why.extra(),
+                begun,
+                deepest,
+                refused.path.len as u64,
+            ];
+            trace(refused.path.as_slice(), path);
+        }
     }
 }
 
-// The first n segments, two words for each.
-fn trace(segments: [Segment; numbers::NESTING], n: usize, path: &mut [u64; 128])
-    requires { n ≤ cap.nesting }
-    ensures { path.new ≡ sets path.old 0 (spec.segments segments n 0) }
+// A path's segments, two words for each.
+fn trace(segments: &[Segment], path: &mut [u64; 128])
+    requires { length segments.now ≤ cap.nesting }
+    ensures { path.new ≡ sets path.old 0 (segment_words segments.now) }
 {
-    let mut i = 0;
-    while i < n {
-        let s = segments[i];
-        let k = s.kind;
-        path[i * 2] = reading::kind_number(k);
-        path[i * 2 + 1] = s.number;
-        i += 1;
+    for (i, segment) in segments.iter().enumerate() {
+        path[i * 2] = segment.kind.into();
+        path[i * 2 + 1] = segment.number;
     }
 }
 
 // A name in its slot.
-fn name(g: Got) -> [u64; 3]
-    ensures { result ≡ name_words g }
+fn name(found: Result<Name, Refusal>) -> [u64; 3]
+    ensures { result ≡ name_words found }
 {
-    match g {
-        Got::Name(p, n) => [0, p as u64, n as u64],
-        Got::No(number) => [number, 0, 0],
+    match found {
+        Ok(name) => [numbers::DONE, name.at as u64, name.len as u64],
+        Err(why) => [why.number(), 0, 0],
+    }
+}
+
+// Where a header's rest begins, or how many bytes were written.
+fn place(found: Result<usize, Refusal>) -> [u64; 3]
+    ensures { result ≡ place_words found }
+{
+    match found {
+        Ok(at) => [numbers::DONE, at as u64, 0],
+        Err(why) => [why.number(), 0, why.extra()],
     }
 }

@@ -19,7 +19,7 @@ ghost use Rattle.fragments.specs.Fragment.{first_at, next_at};
 ghost use Rattle.measure.specs.Item.{items_of};
 ghost use Rattle.writer.specs.Write.{write_over};
 ghost use Rattle.jig.specs.Shown.{interface, Tells, name_words, header_words, first_words, next_words, written_words};
-ghost use Rattle.headwords.specs.Words.{head_words, part_words};
+ghost use Rattle.headwords.specs.Words.{told_words, part_words};
 
 #[unsafe(no_mangle)]
 pub extern "C" fn sill_interface() -> u64
@@ -84,7 +84,7 @@ pub extern "C" fn sill_find_number(
 
 #[unsafe(no_mangle)]
 pub extern "C" fn sill_head(b: &[u8], at: usize, told: &mut [u64; 9])
-    ensures { told.new ≡ head_words (head_of b.now at) }
+    ensures { told.new ≡ told_words (head_of b.now at) }
 {
     jig::sill_head(b, at, told);
 }

@@ -29,7 +29,7 @@ mutual
 
 -- the element at a place of a row is in it
 pub is_in : {n : Node} (row : List Node) (i : ℕ) → get_elem? row i ≡ some n → Memᴰ n row
-is_in [] i e = let z : ◌≡◌ {A = ℕ} 0 1 = cc in absurd (omega arith)
+is_in [] i e = absurd cc
 is_in {n} (m ∷ row) zero e = let f : n ≡ m = cc in Memᴰ.head f
 is_in (m ∷ row) (suc i) e = Memᴰ.tail (is_in row i e)
 

@@ -12,62 +12,80 @@ use Rattle.numbers.specs.Allowed.{Allowed}
 use Rattle.numbers.proofs.Laws.{none_of, arm}
 use Rattle.fields.specs.Field.{number_at}
 use Rattle.fields.proofs.Laws.{number_of}
+use denote.Bor.{Bor}
+use Rattle.std.specs.Prelude.{Option, Some, None, MatchOption}
+use Rattle.std.specs.Option.{option_copied}
+use Rattle.std.specs.Slice.{IsItemAt}
 use Rattle.layouts.specs.declared.Shape.{Shape}
 use Rattle.layouts.specs.Tree.{Tree, Forest, node, none, more, leaf, tag_of, count, bytes, bytes_all, Stands}
 use Rattle.layouts.specs.Layout as layout
 use Rattle.layouts.specs.Layout.{Number, IsAtom, Leaf, Laid, AllLaid}
-use Rattle.layouts.specs.Inner.Shape.{front_of, ends, inner, shape_by, shape_at, shape_of, short_by, short_at}
+use Rattle.layouts.specs.Inner.Shape.{front_of, ends, inner, inside, IsTagAt, shape_by, shape_at, shape_of, short_by, short_at}
 use Rattle.layouts.proofs.Stands.{left, right, byte, behind, spells}
 
 module _ (b : List ℕ) (p : ℕ) where
+  -- a place within an input that reading takes, and the other places
+  pub inside-is : p < length b → length b ≤ cap.input → inside b p ≡ true
+  unfolding inside
+  inside-is h k = rw (lt-ltb p (length b) h, le-leb (length b) cap.input k)
+
+  pub inside_past : length b ≤ p → inside b p ≡ false
+  unfolding inside
+  inside_past h = rw (le-ltb p (length b) h)
+
+  pub inside_long : cap.input < length b → inside b p ≡ false
+  unfolding inside
+  inside_long h = go (ltb p (length b))
+    where
+      go : (x : Bool) → (x && leb (length b) cap.input) ≡ false
+      go true = rw (lt-leb (length b) cap.input h)
+      go false = refl
+
+  -- the byte there, in such an input, is a tag at such a place
+  pub tag-is : (r : Option (Bor ℕ)) → length b ≤ cap.input → IsItemAt b p r → MatchOption (option_copied r) (inside b p ≡ false) (IsTagAt b p)
+  tag-is None h i = inside_past i.3
+  tag-is (Some x) h i = record { within = i.3.0; short = h; is = i.4 (omega arith) 0 }
+
   -- the shape at a place by its tag, and where there is none
-  pub by_tag_lem : (tag : ℕ) → (p < length b) × (length b ≤ cap.input) → get_or b p 0 ≡ tag → shape_by b p tag ≡ shape_at b p
+  pub by_tag_lem : (n : ℕ) {tag : ℕ} → IsTagAt b p tag → tag ≡ n → shape_by b p n ≡ shape_at b p
   unfolding shape_at
-  by_tag_lem tag h e = rw (lt-ltb p (length b) h.0, le-leb (length b) cap.input h.1, e)
+  by_tag_lem n i e = rw (inside-is i.within i.short, ← i.is, e)
 
-  pub past : length b ≤ p → ends p ≡ shape_at b p
+  pub none_at : inside b p ≡ false → ends p ≡ shape_at b p
   unfolding shape_at
-  past h = rw (le-ltb p (length b) h)
-
-  pub large : p < length b → cap.input < length b → ends p ≡ shape_at b p
-  unfolding shape_at
-  large h l = rw (lt-ltb p (length b) h, lt-leb (length b) cap.input l)
+  none_at h = rw h
 
   -- and the short way
-  pub short_tag : (tag : ℕ) → (p < length b) × (length b ≤ cap.input) → get_or b p 0 ≡ tag → short_by b p tag ≡ short_at b p
+  pub short_tag : (n : ℕ) {tag : ℕ} → IsTagAt b p tag → tag ≡ n → short_by b p n ≡ short_at b p
   unfolding short_at
-  short_tag tag h e = rw (lt-ltb p (length b) h.0, le-leb (length b) cap.input h.1, e)
+  short_tag n i e = rw (inside-is i.within i.short, ← i.is, e)
 
-  pub short-past : length b ≤ p → 0 ≡ short_at b p
+  pub short_none : inside b p ≡ false → None ≡ short_at b p
   unfolding short_at
-  short-past h = rw (le-ltb p (length b) h)
-
-  pub short_large : p < length b → cap.input < length b → 0 ≡ short_at b p
-  unfolding short_at
-  short_large h l = rw (lt-ltb p (length b) h, lt-leb (length b) cap.input l)
+  short_none h = rw h
 
   abbrev Short : ℕ → Type 0
-  Short t = ¬ (short_by b p t ≡ 0) → shape_by b p t ≡ ends (short_by b p t)
+  Short t = (e : ℕ) → short_by b p t ≡ Some e → shape_by b p t ≡ ends e
 
   by_tags : (t : ℕ) → Short t
   unfolding short_by shape_by
   by_tags t =
-      arm Short t 97 (λ _. refl)
-      (arm Short t 98 (λ _. refl)
-      (arm Short t 70 (λ _. refl)
-      (arm Short t 106 (λ _. refl)
-      (arm Short t 119 (λ _. refl)
-      (arm Short t 109 (λ _. refl)
-      (arm Short t 82 (λ _. refl)
-      (λ n k. absurd (k (search none_of))))))))) (tt {0})
+      arm Short t 97 (λ e h. let z : p + 2 ≡ e = cc in ap ends z)
+      (arm Short t 98 (λ e h. let z : p + 5 ≡ e = cc in ap ends z)
+      (arm Short t 70 (λ e h. let z : p + 9 ≡ e = cc in ap ends z)
+      (arm Short t 106 (λ e h. let z : p + 1 ≡ e = cc in ap ends z)
+      (arm Short t 119 (λ e h. let z : p + 2 + number_at 1 b (p + 1) ≡ e = cc in ap ends z)
+      (arm Short t 109 (λ e h. let z : p + 5 + number_at 4 b (p + 1) ≡ e = cc in ap ends z)
+      (arm Short t 82 (λ e h. let z : p + 2 ≡ e = cc in ap ends z)
+      (λ n e h. let z : short_by b p t ≡ None = search none_of in absurd cc))))))) (tt {0})
 
-  pub short-is : ¬ (short_at b p ≡ 0) → shape_at b p ≡ ends (short_at b p)
+  pub short-is : {e : ℕ} → short_at b p ≡ Some e → shape_at b p ≡ ends e
   unfolding short_at shape_at
-  short-is = go (ltb p (length b) && leb (length b) cap.input)
+  short-is {e} = go (inside b p)
     where
-      go : (x : Bool) → ¬ (cond x (short_by b p (get_or b p 0)) 0 ≡ 0) → cond x (shape_by b p (get_or b p 0)) (ends p) ≡ ends (cond x (short_by b p (get_or b p 0)) 0)
-      go true h = by_tags (get_or b p 0) h
-      go false h = absurd (h refl)
+      go : (x : Bool) → cond x (short_by b p (get_or b p 0)) None ≡ Some e → cond x (shape_by b p (get_or b p 0)) (ends p) ≡ ends e
+      go true h = by_tags (get_or b p 0) e h
+      go false h = absurd cc
 
   -- a number that stands behind the tag is told there
   told : {k n : ℕ} {l : List ℕ} → Number k l n → Stands b (p + 1) l → number_at k b (p + 1) ≡ n
@@ -123,7 +141,7 @@ pub shape_is : {allow : Allowed} (b : List ℕ) (p : ℕ) (x : Tree) → length 
 unfolding bytes
 shape_is b p (node tag front kids back) l a s =
     let r = front ++ (bytes_all kids ++ back) in
-    sym (by_tag_lem b p tag (omega (arith, s.inside), l) (byte b p tag r s)) ∙ row_is b p a (left b (p + 1) front (bytes_all kids ++ back) (behind b p tag r s))
+    sym (by_tag_lem b p tag (record { within = omega (arith, s.inside); short = l; is = sym (byte b p tag r s) }) refl) ∙ row_is b p a (left b (p + 1) front (bytes_all kids ++ back) (behind b p tag r s))
 
 -- a laid tree's children are laid
 pub kids_laid : {allow : Allowed} {tag : ℕ} {front : List ℕ} {ts : Forest} {back : List ℕ} → Laid allow (node tag front ts back) → AllLaid allow ts

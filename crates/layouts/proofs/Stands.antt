@@ -7,7 +7,7 @@ use lib.ListN.{length, get_or, take, drop, length-append, length-drop}
 use lib.Seq.{take-add, take-append_seam, drop-append_seam, drop-drop, length-take-le, get_or-take, get_or-drop, drop-cons}
 use Rattle.fields.specs.Be.{be, be_at}
 use Rattle.fields.specs.Field.{field_at}
-use Rattle.fields.specs.declared.Field.TheVariants as field
+use Rattle.std.specs.Prelude.{Some}
 use Rattle.fields.proofs.Laws.{is-there, field_is, is_whole}
 use Rattle.layouts.specs.Tree.{Stands}
 use Rattle.layouts.specs.Layout.{Number}
@@ -85,13 +85,13 @@ module _ (b : List ℕ) (p : ℕ) where
     led h e s = both (x ∷ []) l (record { inside = omega arith; same = rw (drop-cons b p 0 h, e) }) s
 
   -- a number
-  pub spells : {k n : ℕ} {l : List ℕ} → Stands b p l → Number k l n → field_at k b p ≡ field.Is n
+  pub spells : {k n : ℕ} {l : List ℕ} → Stands b p l → Number k l n → field_at k b p ≡ Some n
   unfolding be_at
   spells {k} {n} {l} s w =
       let e : take k (drop p b) ≡ l = ap (λ (j : ℕ). take j (drop p b)) (sym w.wide) ∙ s.same in
       sym (field_is k b p (is-there k b p (omega (arith, s.inside, w.wide))) (sym w.is ∙ ap be (sym e)))
 
-  pub number : {k n : ℕ} → field_at k b p ≡ field.Is n → Number k (take k (drop p b)) n
+  pub number : {k n : ℕ} → field_at k b p ≡ Some n → Number k (take k (drop p b)) n
   unfolding be_at
   number {k} {n} e =
       let (h, i) = is_whole k b p e in

@@ -5,8 +5,8 @@
 
 #![tactic(auto)]
 
-ghost use Rattle.std.specs.Prelude.{◌≡◌};
-ghost use Rattle.layouts.specs.Inner.Shape.{ends, inner, shape_at, short_at};
+ghost use Rattle.std.specs.Prelude.{◌≡◌, false, MatchOption};
+ghost use Rattle.layouts.specs.Inner.Shape.{ends, inner, inside, IsTagAt, shape_at, short_at};
 
 // The first child's place, or the end of a term without children; how many children; the bytes behind them.
 #[derive(Clone, Copy)]
@@ -16,17 +16,13 @@ pub struct Shape {
     pub back: usize,
 }
 
-// The shape of the term at a place. Where no term stands there, it says nothing of use; the two tests keep its sums small.
+// The shape of the term at a place. Where no term stands there, it says nothing of use.
 pub fn shape_at(b: &[u8], at: usize) -> Shape
     ensures { result ≡ shape_at b.now at }
 {
-    if b.len() <= at {
+    let Some(tag) = tag_at(b, at) else {
         return ends(at);
-    }
-    if numbers::INPUT < b.len() {
-        return ends(at);
-    }
-    let tag = b[at];
+    };
     match tag {
         97 => ends(at + 2),
         98 => ends(at + 5),
@@ -51,17 +47,14 @@ pub fn shape_at(b: &[u8], at: usize) -> Shape
     }
 }
 
-// The same, the commonest terms with children first: for a loop over terms that aren't short.
+// The same, the commonest terms with children first: for a loop over terms that aren't short, which took longer where each went by the whole
+// match (docs/DECISIONS.md, "The tape's short way").
 pub fn inner_at(b: &[u8], at: usize) -> Shape
     ensures { result ≡ shape_at b.now at }
 {
-    if b.len() <= at {
+    let Some(tag) = tag_at(b, at) else {
         return ends(at);
-    }
-    if numbers::INPUT < b.len() {
-        return ends(at);
-    }
-    let tag = b[at];
+    };
     if tag == 104 {
         return inner(at + 2, fields::u8_at(b, at + 1) as usize, 0);
     }
@@ -74,26 +67,30 @@ pub fn inner_at(b: &[u8], at: usize) -> Shape
     shape_at(b, at)
 }
 
-// The end of one of the commonest terms without children, for a loop over children: 0 says nothing.
-pub fn short_at(b: &[u8], at: usize) -> usize
+// The end of one of the commonest terms without children, for a loop over children: None says nothing.
+pub fn short_at(b: &[u8], at: usize) -> Option<usize>
     ensures { result ≡ short_at b.now at }
 {
-    if b.len() <= at {
-        return 0;
+    match tag_at(b, at)? {
+        97 => Some(at + 2),
+        98 => Some(at + 5),
+        70 => Some(at + 9),
+        106 => Some(at + 1),
+        119 => Some(at + 2 + fields::u8_at(b, at + 1) as usize),
+        109 => Some(at + 5 + fields::u32_at(b, at + 1) as usize),
+        82 => Some(at + 2),
+        _ => None,
     }
-    if numbers::INPUT < b.len() {
-        return 0;
-    }
-    let tag = b[at];
-    match tag {
-        97 => at + 2,
-        98 => at + 5,
-        70 => at + 9,
-        106 => at + 1,
-        119 => at + 2 + fields::u8_at(b, at + 1) as usize,
-        109 => at + 5 + fields::u32_at(b, at + 1) as usize,
-        82 => at + 2,
-        _ => 0,
+}
+
+// The tag at a place: none past the end, and none in an input longer than reading takes, so that no sum is too large.
+fn tag_at(b: &[u8], at: usize) -> Option<u8>
+    ensures { MatchOption result (inside b.now at ≡ false) (IsTagAt b.now at) }
+{
+    if b.len() <= numbers::INPUT {
+        b.get(at).copied()
+    } else {
+        None
     }
 }
 

@@ -1,126 +1,79 @@
-// Standard input as lines, for the programs: a lent buffer that is filled behind what was kept of an unfinished line. What stands in it and isn't
-// taken yet lies between `from` and `end`. Both functions take any buffer and any places.
+// Standard input as lines, for the programs: a lent buffer that is filled behind what was kept of an unfinished line.
 
 #![tactic(auto)]
 
-ghost use Rattle.std.specs.Prelude.{◌≤◌, ◌+◌, ◌-◌, length};
+ghost use Rattle.std.specs.Prelude.{◌≤◌, length};
 
 use print::Out;
+use std::fmt;
 use std::io::{Read, Stdin};
 
-// Where the line that begins at `from` ends, `end` where it has no end of line before that.
-pub fn stop(text: &[u8], from: usize, end: usize) -> usize
-    ensures { (from ≤ result + (from - end)) × (result ≤ end) }
-{
-    if text.len() < end {
-        return end;
-    }
-    if end < from {
-        return end;
-    }
-    found(text, from, end)
-}
-
-fn found(text: &[u8], from: usize, end: usize) -> usize
-    requires { (from ≤ end) × (end ≤ length text.now) }
-    ensures { (from ≤ result) × (result ≤ end) }
-{
-    let mut i = from;
-    while i < end {
-        if text[i] == b'\n' {
-            return i;
-        }
-        i += 1;
-    }
-    i
-}
-
-// Where no whole line is left: writes what waits in `out`, keeps the unfinished line and reads behind it. Answers where the bytes end then, and
-// 0 where nothing follows: there is no more to read, it can't be read, or the output failed.
-pub fn more(
+// What stands in the buffer and isn't taken yet lies between `from` and `end`.
+#[derive(Drop)]
+pub struct Lines<'a> {
     stdin: Stdin,
-    text: &mut [u8],
+    text: &'a mut [u8],
     from: usize,
     end: usize,
-    out: &mut Out<'_>,
-    at: usize,
-) -> usize
-    ensures { result ≤ length text.old }
-{
-    if text.len() < end {
-        return 0;
-    }
-    if end < from {
-        return 0;
-    }
-    if print::flush(out, at) == print::FAILED {
-        return 0;
-    }
-    let kept = keep(text, from, end);
-    fill(stdin, text, kept, out)
+    ghost within: { (from ≤ end) × (end ≤ length text.now) },
 }
 
-// Moves an unfinished line to the buffer's start, and answers how many bytes were kept. Of a line that is too long for a request one
-// letter more than the longest request is kept, so that there is room to read on, and that it is too long is still seen.
-fn keep(text: &mut [u8], from: usize, end: usize) -> usize
-    requires { (from ≤ end) × (end ≤ length text.old) }
-    ensures { result ≤ length text.old }
-{
-    let n = least(end - from, asking::LONGEST + 1);
-    let mut i = 0;
-    while i < n {
-        text[i] = text[from + i];
-        i += 1;
+impl<'a> Lines<'a> {
+    pub fn new(stdin: Stdin, text: &'a mut [u8]) -> Lines<'a> {
+        Lines {
+            stdin,
+            text,
+            from: 0,
+            end: 0,
+        }
     }
-    n
-}
 
-fn least(a: usize, b: usize) -> usize
-    ensures { (result ≤ a) × (result ≤ b) }
-{
-    if a < b { a } else { b }
-}
-
-// Reads once, behind what was kept, and answers where the bytes end then. Where there is no more, a line that was kept gets its end of line.
-// 0 where nothing follows; that the input can't be read is said.
-fn fill(stdin: Stdin, text: &mut [u8], kept: usize, out: &mut Out<'_>) -> usize
-    requires { kept ≤ length text.old }
-    ensures { result ≤ length text.old }
-{
-    if kept == text.len() {
-        return 0;
+    // Hands the next line on, without its end of line. None where what is left of the buffer has no end of line.
+    pub fn next_with<R, F>(&mut self, answer: F) -> Option<R>
+    where
+        F: FnOnce(&mut [u8]) -> R,
+        requires { F.IsAlwaysCallable answer }
+    {
+        let from = self.from;
+        let left = &self.text[from..self.end];
+        let n = left.iter().position(|letter| *letter == b'\n')?;
+        self.from = from + n + 1;
+        Some(answer(&mut self.text[from..from + n]))
     }
-    let got = read(stdin, &mut text[kept..]);
-    if got.failed {
-        print::unread(out);
-        return 0;
-    }
-    if 0 < got.count || kept == 0 {
-        return kept + got.count;
-    }
-    text[kept] = b'\n';
-    kept + 1
-}
 
-// How many bytes were read, and whether reading failed.
-#[derive(Clone, Copy)]
-struct Got {
-    count: usize,
-    failed: bool,
-}
+    // Where no whole line is left: writes what waits in `out`, keeps the unfinished line and reads behind it. Where there is no more, a line
+    // that was kept gets its end of line. False where nothing follows: there is no more to read, or it can't be read, which is said.
+    pub fn more(&mut self, out: &mut Out<'_>) -> Result<bool, fmt::Error> {
+        out.flush()?;
+        self.keep();
+        let kept = self.end;
+        if kept == self.text.len() {
+            return Ok(false);
+        }
+        match self.stdin.read(&mut self.text[kept..]) {
+            Ok(0) if kept == 0 => Ok(false),
+            Ok(0) => {
+                self.text[kept] = b'\n';
+                self.end = kept + 1;
+                Ok(true)
+            }
+            Ok(n) => {
+                self.end = kept + n;
+                Ok(true)
+            }
+            Err(_) => {
+                out.unread();
+                Ok(false)
+            }
+        }
+    }
 
-fn read(stdin: Stdin, room: &mut [u8]) -> Got
-    ensures { result.count ≤ length room.old }
-{
-    let mut input = stdin;
-    match input.read(room) {
-        Ok(count) => Got {
-            count,
-            failed: false,
-        },
-        Err(_) => Got {
-            count: 0,
-            failed: true,
-        },
+    // Moves an unfinished line to the buffer's start. Of a line that is too long for a request one letter more than the longest request is kept,
+    // so that there is room to read on, and that it is too long is still seen.
+    fn keep(&mut self) {
+        let n = (self.end - self.from).min(asking::LONGEST + 1);
+        self.text.copy_within(self.from..self.from + n, 0);
+        self.from = 0;
+        self.end = n;
     }
 }

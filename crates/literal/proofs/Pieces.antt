@@ -1,15 +1,16 @@
 -- Each answer of the code is its definition's in Parse.antt: what a test of the code says of the definition. Assumes nothing.
 use mathlib.Core.Path.{◌≡◌, refl, sym, ap, ◌∙◌}
-use mathlib.Core.Logic.{◌⊎◌, ⊎_elim}
-use mathlib.Core.Bool.{Bool, true, false, ◌||◌, and-false, or-true}
-use mathlib.Core.List.{List, [], ◌∷◌}
-use Prim.Native.Nat.{ℕ, suc, ◌+◌, ◌-◌, ◌≤◌, ◌<◌}
-use native.Mathlib.Numerals.{add-one}
+use mathlib.Core.Logic.{◌⊎◌, ⊎_elim, ◌↔◌}
+use mathlib.Core.Bool.{Bool, true, false, ◌&&◌, ◌||◌, false≢true, or-true, and-eq-true_iff}
+use mathlib.Core.List.{List, [], ◌∷◌, map}
+use Prim.Native.Nat.{ℕ, zero, suc, ◌+◌, ◌-◌, ◌≤◌, ◌<◌}
 use native.Mathlib.Omega.{arith}
-use borrow.Author.Tests.{eq-eqb, ne_eqb, lt-ltb, le-ltb}
-use lib.Dec.{ltb}
-use lib.ListN.{length, get_or, take, drop, length-drop, drop_of_length-le}
+use borrow.Author.Tests.{eq-eqb, ne_eqb, leb-true, lt-ltb, le-ltb}
+use lib.Dec.{eqb, leb, ltb}
+use lib.ListN.{length, get_or, take, drop, length-drop, get_or-eq_default, drop_of_length-le}
 use lib.Seq.{take_all, drop-cons}
+use Rattle.std.specs.Char.{to_ascii_lowercase}
+use Rattle.std.proofs.lemmas.Bool.Decides.{nat_tests, same_from_decides}
 use Rattle.literal.specs.Inner.Parse.{after_sign, is_digit, after_digits, is_cased, is_word, is_ending, is_number, inf_text, infinity_text, nan_text, is_literal}
 
 -- the part from i on, as the code takes it
@@ -18,6 +19,9 @@ part s i = take_all (length s - i) (drop i s) (omega (arith, length-drop i s))
 
 pub none : (s : List ℕ) → length s ≡ 0 → s ≡ []
 none s h = drop_of_length-le s {i = 0} (omega arith)
+
+pub no_first : (s : List ℕ) → length s < 1 → get_or s 0 0 ≡ 0
+no_first s h = get_or-eq_default s 0 {n = 0} (omega arith)
 
 -- ---- the sign
 
@@ -35,40 +39,47 @@ unfolding after_sign
 bare [] h k = refl
 bare (b ∷ s) h k = rw (ne_eqb b 43 h, ne_eqb b 45 k)
 
--- ---- the digits: all before i are
-module _ (s : List ℕ) (i : ℕ) (before : after_digits s ≡ after_digits (drop i s)) where
-  pub stops : i < length s → is_digit (get_or s i 0) ≡ false → take (length s - i) (drop i s) ≡ after_digits s
-  unfolding after_digits
-  stops h e = part s i ∙ sym (before ∙ rw (drop-cons s i 0, e))
+-- ---- the digits
 
-  pub goes_on : i < length s → is_digit (get_or s i 0) ≡ true → after_digits s ≡ after_digits (drop (i + 1) s)
-  unfolding after_digits
-  goes_on h e = before ∙ rw (add-one, drop-cons s i 0, e)
+pub all_digits : (s : List ℕ) → ((k : ℕ) → k < length s → is_digit (get_or s k 0) ≡ true) → [] ≡ after_digits s
+unfolding after_digits
+all_digits [] h = refl
+all_digits (b ∷ s) h = rw (h 0 (omega arith)) (all_digits s (λ k l. h (suc k) (omega arith)))
 
-  pub all_digits : length s ≤ i → take (length s - i) (drop i s) ≡ after_digits s
-  unfolding after_digits
-  all_digits h = part s i ∙ sym (before ∙ rw (drop_of_length-le s h))
+-- the digits end where the first other byte stands
+pub digits_to : (s : List ℕ) (i : ℕ) → i < length s → is_digit (get_or s i 0) ≡ false → ((k : ℕ) → k < i → is_digit (get_or s k 0) ≡ true)
+    → drop i s ≡ after_digits s
+unfolding after_digits
+digits_to [] i l e h = absurd (omega arith)
+digits_to (b ∷ s) zero l e h = rw e
+digits_to (b ∷ s) (suc i) l e h = rw (h 0 (omega arith)) (digits_to s i (omega arith) e (λ k m. h (suc k) (omega arith)))
 
--- ---- the words: all letters before i are the word's
-module _ (w t : List ℕ) (i : ℕ) (long : length t ≡ length w) (before : is_word w t ≡ is_word (drop i w) (drop i t)) where
-  pub differs : i < length w → is_cased (get_or w i 0) (get_or t i 0) ≡ false → false ≡ is_word w t
-  unfolding is_word
-  differs h e = let k : i < length t = omega arith in sym (before ∙ rw (drop-cons w i 0, drop-cons t i 0, e))
+-- ---- the words
 
-  pub agrees : i < length w → is_cased (get_or w i 0) (get_or t i 0) ≡ true → is_word w t ≡ is_word (drop (i + 1) w) (drop (i + 1) t)
-  unfolding is_word
-  agrees h e = let k : i < length t = omega arith in before ∙ rw (add-one, drop-cons w i 0, drop-cons t i 0, e)
+-- every letter is a small one
+unfoldable pub small : List ℕ → Bool
+small [] = true
+small (c ∷ w) = (leb 97 c && leb c 122) && small w
 
-  pub all_letters : length w ≤ i → true ≡ is_word w t
-  unfolding is_word
-  all_letters h = let k : length t ≤ i = omega arith in sym (before ∙ rw (drop_of_length-le w h, drop_of_length-le t k))
+cased-is : (c b : ℕ) → 97 ≤ c → c ≤ 122 → (is_cased c b ≡ true) ↔ (to_ascii_lowercase b ≡ to_ascii_lowercase c)
+unfolding is_cased
+cased-is c b l h = (λ e. grind (arith, nat_tests), λ e. grind (arith, nat_tests))
 
-pub other_length : (w t : List ℕ) → ¬ (length t ≡ length w) → false ≡ is_word w t
-unfolding is_word
-other_length [] [] h = absurd (h refl)
-other_length [] (b ∷ t) h = refl
-other_length (c ∷ w) [] h = refl
-other_length (c ∷ w) (b ∷ t) h = rw (← other_length w t (λ e. h (ap suc e)), and-false)
+-- a text is a word of small letters where both are one text in small letters
+word-is : (w t : List ℕ) → small w ≡ true → (is_word w t ≡ true) ↔ (map to_ascii_lowercase t ≡ map to_ascii_lowercase w)
+unfolding small is_word
+word-is [] [] s = (λ e. refl, λ e. refl)
+word-is [] (b ∷ t) s = (λ e. absurd (false≢true e), λ e. cc)
+word-is (c ∷ w) [] s = (λ e. absurd (false≢true e), λ e. cc)
+word-is (c ∷ w) (b ∷ t) s =
+    let f = (and-eq-true_iff (leb 97 c && leb c 122) (small w)).0 s in
+    let g = (and-eq-true_iff (leb 97 c) (leb c 122)).0 f.0 in
+    let k = cased-is c b (leb-true 97 c g.0) (leb-true c 122 g.1) in
+    let r = word-is w t f.1 in (
+      λ e. let h = (and-eq-true_iff (is_cased c b) (is_word w t)).0 e in let x = k.0 h.0 in let y = r.0 h.1 in cc,
+      λ e. let x : to_ascii_lowercase b ≡ to_ascii_lowercase c = cc in let y : map to_ascii_lowercase t ≡ map to_ascii_lowercase w = cc in
+          (and-eq-true_iff (is_cased c b) (is_word w t)).1 (k.1 x, r.1 y),
+    )
 
 -- ---- the ending
 
@@ -77,20 +88,18 @@ unfolding is_ending
 no_power s h = rw (none s h)
 
 module _ (s : List ℕ) (h : 0 < length s) where
-  pub no_e : is_cased 101 (get_or s 0 0) ≡ false → false ≡ is_ending s
+  pub no_e : ¬ (get_or s 0 0 ≡ 101) → ¬ (get_or s 0 0 ≡ 69) → false ≡ is_ending s
+  unfolding is_ending is_cased
+  no_e e f = sym (ap is_ending (drop-cons s 0 0 h) ∙ rw (ne_eqb (get_or s 0 0) 101 e, ne_eqb (get_or s 0 0 + 32) 101 (λ g. f (omega arith))))
+
+  pub e_first : (get_or s 0 0 ≡ 101) ⊎ (get_or s 0 0 ≡ 69) → is_cased 101 (get_or s 0 0) ≡ true
+  unfolding is_cased
+  e_first e = ⊎_elim (λ f. rw f) (λ f. rw f) e
+
+  pub a_power : (t u : List ℕ) → (get_or s 0 0 ≡ 101) ⊎ (get_or s 0 0 ≡ 69) → t ≡ after_sign (take (length s - 1) (drop 1 s)) → u ≡ after_digits t
+      → (eqb (length u) 0 && ltb 0 (length t)) ≡ is_ending s
   unfolding is_ending
-  no_e e = sym (ap is_ending (drop-cons s 0 0 h) ∙ rw e)
-
-  module _ (t u : List ℕ) (e : is_cased 101 (get_or s 0 0) ≡ true) (x : t ≡ after_sign (take (length s - 1) (drop 1 s))) (y : u ≡ after_digits t) where
-    pub too_long : 0 < length u → false ≡ is_ending s
-    unfolding is_ending
-    too_long l =
-        let k = ne_eqb (length u) 0 (omega arith) in
-        sym (ap is_ending (drop-cons s 0 0 h) ∙ rw (e, ← part s 1, ← x, ← y, k))
-
-    pub a_power : length u ≡ 0 → ltb 0 (length t) ≡ is_ending s
-    unfolding is_ending
-    a_power l = sym (ap is_ending (drop-cons s 0 0 h) ∙ rw (e, ← part s 1, ← x, ← y, l))
+  a_power t u e x y = sym (ap is_ending (drop-cons s 0 0 h) ∙ rw (e_first e, ← part s 1, ← x, ← y))
 
 -- ---- the number
 
@@ -130,6 +139,21 @@ module _ (s t : List ℕ) (x : t ≡ after_sign s) where
   pub is-nan : is_word nan_text t ≡ true → true ≡ is_literal s
   is-nan e = rw (literal-at, ← x, e, or-true, or-true)
 
-  pub no_word : {r : Bool} → is_word inf_text t ≡ false → is_word infinity_text t ≡ false → is_word nan_text t ≡ false → r ≡ is_number t
-      → r ≡ is_literal s
-  no_word e f g h = rw (literal-at, ← x, e, f, g) h
+  pub literal-of : is_word inf_text t || (is_word infinity_text t || (is_word nan_text t || is_number t)) ≡ is_literal s
+  literal-of = rw (literal-at, ← x)
+
+-- the code's test of a word
+pub is_it : (w t : List ℕ) → small w ≡ true → {r : Bool} → ((r ≡ true) ↔ (map to_ascii_lowercase t ≡ map to_ascii_lowercase w)) → r ≡ is_word w t
+is_it w t s {r} h = same_from_decides r (is_word w t) h (word-is w t s)
+
+pub inf-small : small inf_text ≡ true
+unfolding small
+inf-small = refl
+
+pub infinity-small : small infinity_text ≡ true
+unfolding small
+infinity-small = refl
+
+pub nan-small : small nan_text ≡ true
+unfolding small
+nan-small = refl

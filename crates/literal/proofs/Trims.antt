@@ -2,12 +2,13 @@
 use mathlib.Core.Path.{◌≡◌, refl}
 use mathlib.Core.Bool.{Bool, true, false}
 use mathlib.Core.List.{List, [], ◌∷◌}
-use Prim.Native.Nat.{ℕ, zero, suc, ◌-◌, ◌≤◌, ◌<◌}
+use Prim.Native.Nat.{ℕ, zero, suc, ◌+◌, ◌-◌, ◌≤◌, ◌<◌}
 use native.Mathlib.Numerals.{unary_clauses}
 use native.Mathlib.Omega.{arith}
 use borrow.Author.Tests.{eqb-true, eqb-false}
 use lib.Dec.{eqb}
 use lib.ListN.{length, get_or}
+use native.Mathlib.Nat.{add-sub_cancel}
 use Rattle.literal.specs.Trim.{Trimmed}
 use Rattle.literal.specs.Inner.Trim.{trimmed}
 
@@ -45,3 +46,11 @@ trimmed_once {s} {m} {n} a b =
     let x : ¬ (m < n) = λ l. b.last (omega arith) (a.zeros (n - 1) (omega arith) (omega (arith, b.inside))) in
     let y : ¬ (n < m) = λ l. a.last (omega arith) (b.zeros (m - 1) (omega arith) (omega (arith, a.inside))) in
     omega arith
+
+-- the last byte that isn't 0
+pub trimmed_behind : (s : List ℕ) (i : ℕ) → i < length s → ¬ (get_or s i 0 ≡ 0) → ((k : ℕ) → i + 1 ≤ k → k < length s → get_or s k 0 ≡ 0)
+    → i + 1 ≡ trimmed s
+trimmed_behind s i l n z = trimmed_once (record { inside = omega arith; zeros = z; last = λ h e. n (rw (add-sub_cancel i 1) at e) }) (trimmed-is s)
+
+pub trimmed-empty : (s : List ℕ) → ((k : ℕ) → k < length s → get_or s k 0 ≡ 0) → 0 ≡ trimmed s
+trimmed-empty s z = trimmed_once (record { inside = omega arith; zeros = λ k h l. z k l; last = λ h. absurd (omega arith) }) (trimmed-is s)

@@ -6,15 +6,15 @@ use mathlib.Core.Path.{◌≡◌, refl, ap, sym, ◌∙◌}
 use mathlib.Core.List.{List, ◌++◌}
 use mathlib.Core.Bool.{Bool, true, false, cond}
 use lib.ListN.{length}
+use Rattle.std.specs.Prelude.{Option, Some, None}
+use Rattle.std.specs.Option.{option_or}
 use Rattle.numbers.specs.Allowed.{plain}
 use Rattle.numbers.specs.Caps as cap
 use Rattle.layouts.specs.Tree.{Tree, Forest, none, more, count, bytes, bytes_all, Stands}
 use Rattle.layouts.specs.Layout.{AllLaid, one_more}
 use Rattle.layouts.proofs.Stands.{left, right}
-use Rattle.lookup.specs.declared.Place.{Place}
-use Rattle.lookup.specs.declared.Place.TheVariants as place
 use Rattle.lookup.specs.Lookup.{Key}
-use Rattle.lookup.specs.Inner.Found.{equal, or_else, found}
+use Rattle.lookup.specs.Inner.Found.{equal, found}
 use Rattle.lookup.specs.Inner.Walk.{Term, Terms, OneTerm, Ends, Judges}
 
 -- a key and its value, and what is left behind them
@@ -48,32 +48,32 @@ entry {b} {p} {n} {ts} h t = go ts t.laid t.counted t.stands
         }
 
 -- a later key wins
-later : (a : Place) (e : Bool) (v : ℕ) (o : Place) → or_else (or_else a (cond e (place.At v) place.Nowhere)) o ≡ or_else a (cond e (place.At v) o)
-later (place.At q) e v o = refl
-later place.Nowhere true v o = refl
-later place.Nowhere false v o = refl
+later : (a : Option ℕ) (e : Bool) (v : ℕ) (o : Option ℕ) → option_or (option_or a (cond e (Some v) None)) o ≡ option_or a (cond e (Some v) o)
+later (Some q) e v o = refl
+later None true v o = refl
+later None false v o = refl
 
 -- the n keys and values from p on, and what was found before them: together they are all that there is to find
-pub record Left (b : List ℕ) (p n : ℕ) (k : Key) (all before : Place) : Type 0 where
+pub record Left (b : List ℕ) (p n : ℕ) (k : Key) (all before : Option ℕ) : Type 0 where
   pub rest : Forest
   pub are : Terms b p n rest
-  pub same : all ≡ or_else (found k p rest) before
+  pub same : all ≡ option_or (found k p rest) before
 
 -- at first all is left
-pub at_first : {b : List ℕ} {p n : ℕ} (k : Key) {ts : Forest} → Terms b p n ts → Left b p n k (found k p ts) place.Nowhere
-at_first {p = p} k {ts} t = record { rest = ts; are = t; same = go (found k p ts) }
+pub at_first : {b : List ℕ} {p n m : ℕ} (k : Key) {ts : Forest} → m ≡ n → Terms b p n ts → Left b p m k (found k p ts) None
+at_first {p = p} k {ts} e t = record { rest = ts; are = rw e t; same = go (found k p ts) }
   where
-    go : (o : Place) → o ≡ or_else o place.Nowhere
-    go (place.At q) = refl
-    go place.Nowhere = refl
+    go : (o : Option ℕ) → o ≡ option_or o None
+    go (Some q) = refl
+    go None = refl
 
-module _ {b : List ℕ} {p n : ℕ} {k : Key} {all before : Place} (s : Left b p n k all before) where
+module _ {b : List ℕ} {p n : ℕ} {k : Key} {all before : Option ℕ} (s : Left b p n k all before) where
   -- at the end nothing is left
   pub at_last : n ≤ 1 → before ≡ all
   unfolding count found
   at_last h = go s.rest s.are.counted s.same
     where
-      go : (ts : Forest) → count ts ≡ n → all ≡ or_else (found k p ts) before → before ≡ all
+      go : (ts : Forest) → count ts ≡ n → all ≡ option_or (found k p ts) before → before ≡ all
       go none c e = sym e
       go (more x none) c e = sym e
       go (more x (more y zs)) c e = absurd (omega arith)
@@ -96,18 +96,18 @@ module _ {b : List ℕ} {p n : ℕ} {k : Key} {all before : Place} (s : Left b p
     a_value l e = record { short = l; tree = here.value; is = value-at e }
 
     -- one entry on
-    pub entry_on : {v p' : ℕ} {e : Bool} {f : Place} → Ends b p v → Judges b p k e → Ends b v p' → f ≡ cond e (place.At v) before → Left b p' (n - 2) k all f
+    pub entry_on : {v p' m : ℕ} {e : Bool} {f : Option ℕ} → m ≡ n - 2 → Ends b p v → Judges b p k e → Ends b v p' → f ≡ cond e (Some v) before → Left b p' m k all f
     unfolding found
-    entry_on {v} {p'} {e} {f} x y z w =
+    entry_on {v} {p'} {m} {e} {f} a x y z w =
         let i = value-is x in
         let j : p' ≡ p + length (bytes here.key) + length (bytes here.value) = z.is here.value (value-at x) ∙ ap (λ (q : ℕ). q + length (bytes here.value)) i in
         let g : e ≡ equal k here.key = y.is here.key here.key_at in
         record {
           rest = here.others;
-          are = rw j here.others_at;
+          are = rw (a, j) here.others_at;
           same =
               s.same
-              ∙ ap (λ (ts : Forest). or_else (found k p ts) before) here.is
+              ∙ ap (λ (ts : Forest). option_or (found k p ts) before) here.is
               ∙ later (found k _ here.others) (equal k here.key) _ before
               ∙ rw (w, j, g, i);
         }

@@ -12,17 +12,17 @@ use lib.Seq.{drop_at}
 use mir.Syntax.{w64}
 use mir.Val.{SFits, of_z}
 use borrow.Author.Tests.{ne_eqb}
+use Rattle.std.specs.Ordering.{int_eq}
+use Rattle.std.specs.Str.{bytes_eq}
 use Rattle.numbers.specs.Allowed.{plain}
 use Rattle.fields.specs.Be.{be, be_at, signed}
-use Rattle.fields.specs.Field.{integer_at}
-use Rattle.fields.specs.declared.Integer.TheVariants as integer
-use Rattle.fields.proofs.Laws.{is-there, integer-is, be-one}
+use Rattle.fields.specs.Field.{number_at}
+use Rattle.fields.proofs.Laws.{at_there, be-one}
 use Rattle.layouts.specs.Tree.{Tree, node, leaf, tag_of, bytes, Stands}
-use Rattle.layouts.specs.Inner.Shape.{front_of}
 use Rattle.layouts.specs.Layout.{Laid, row, small_integer, integer, old_atom, atom, small_atom}
 use Rattle.layouts.proofs.Stands.{left, right, byte, behind}
 use Rattle.lookup.specs.Lookup.{name, number}
-use Rattle.lookup.specs.Inner.Found.{same_bytes, same_integer, equal}
+use Rattle.lookup.specs.Inner.Found.{equal}
 use Rattle.lookup.specs.Inner.Walk.{Term, Ends}
 use Rattle.lookup.proofs.Compare.{by_bits}
 
@@ -47,7 +47,7 @@ no-integer z (node tag front kids back) f g = rw (ne_eqb tag 97 f, ne_eqb tag 98
 pub record Named (b : List ℕ) (from e : ℕ) (t : Tree) : Type 0 where
   pub within : from ≤ e
   pub inside : e ≤ length b
-  pub tells : (s : List ℕ) → same_bytes (take (e - from) (drop from b)) s ≡ equal (name s) t
+  pub tells : (s : List ℕ) → bytes_eq (take (e - from) (drop from b)) s ≡ equal (name s) t
 
 -- the first byte is the tag
 first : {b : List ℕ} {p : ℕ} (t : Tree) → Stands b p (bytes t) → (get_or b p 0 ≡ tag_of t) × (p < length b)
@@ -62,7 +62,7 @@ module _ {b : List ℕ} {p : ℕ} where
 
   -- a name behind a length of k bytes
   name-at : {from e : ℕ} (tag k : ℕ) (n m : List ℕ) → length n ≡ k → p + 1 + k ≡ from → e ≡ p + length (bytes (leaf tag (n ++ m))) → Stands b p (bytes (leaf tag (n ++ m))) →
-      ((s : List ℕ) → equal (name s) (leaf tag (n ++ m)) ≡ same_bytes (drop k (n ++ m)) s) → Named b from e (leaf tag (n ++ m))
+      ((s : List ℕ) → equal (name s) (leaf tag (n ++ m)) ≡ bytes_eq (drop k (n ++ m)) s) → Named b from e (leaf tag (n ++ m))
   unfolding bytes
   name-at {from} {e} tag k n m w f g x h =
       let y = right b (p + 1) n m (front_at tag (n ++ m) x) in
@@ -70,7 +70,7 @@ module _ {b : List ℕ} {p : ℕ} where
       let i : e - from ≡ length m = omega arith in
       let j : from ≡ p + 1 + length n = omega arith in
       let q : take (e - from) (drop from b) ≡ drop k (n ++ m) = rw (i, j) y.same ∙ sym (drop_at n m k w) in
-      record { within = omega arith; inside = omega (arith, y.inside); tells = λ s. ap (λ (r : List ℕ). same_bytes r s) q ∙ sym (h s) }
+      record { within = omega arith; inside = omega (arith, y.inside); tells = λ s. ap (λ (r : List ℕ). bytes_eq r s) q ∙ sym (h s) }
 
   short-at : {e : ℕ} {t : Tree} → Laid plain t → Only 119 (tag_of t) → e ≡ p + length (bytes t) → Stands b p (bytes t) → Named b (p + 2) e t
   unfolding equal
@@ -84,26 +84,26 @@ module _ {b : List ℕ} {p : ℕ} where
   long-at l other f x = elim other [ ]
 
   -- the number behind the tag is the front's
-  number_at : (tag k : ℕ) (l : List ℕ) → length l ≡ k → Stands b p (bytes (leaf tag l)) → (p + 1 + k ≤ length b) × (be_at k b (p + 1) ≡ be l)
+  number-is : (tag k : ℕ) (l : List ℕ) → length l ≡ k → Stands b p (bytes (leaf tag l)) → (p + 1 + k ≤ length b) × (be_at k b (p + 1) ≡ be l)
   unfolding be_at
-  number_at tag k l w x =
+  number-is tag k l w x =
       let y = front_at tag l x in
       (omega (arith, y.inside), ap be (ap (λ (j : ℕ). take j (drop (p + 1) b)) (sym w) ∙ y.same))
 
-  byte_at : {t : Tree} → Laid plain t → Only 97 (tag_of t) → Stands b p (bytes t) → (p + 1 < length b) × ((z : ℤ) → same_integer (pos (get_or b (p + 1) 0)) z ≡ equal (number z) t)
+  byte_at : {t : Tree} → Laid plain t → Only 97 (tag_of t) → Stands b p (bytes t) → (p + 1 < length b) × ((z : ℤ) → int_eq (pos (get_or b (p + 1) 0)) z ≡ equal (number z) t)
   unfolding equal
   byte_at (row (small_integer {l} w)) it x =
-      let (h, g) = number_at 97 1 l w x in
+      let (h, g) = number-is 97 1 l w x in
       let e : get_or b (p + 1) 0 ≡ be l = sym (be-one b (p + 1) (omega arith)) ∙ g in
       (omega arith, λ z. rw e)
   byte_at l other x = elim other [ ]
 
-  word_at : {t : Tree} → Laid plain t → Only 98 (tag_of t) → Stands b p (bytes t) → (integer.Is (signed (be (front_of t))) ≡ integer_at b (p + 1)) × ((z : ℤ) → same_integer (signed (be (front_of t))) z ≡ equal (number z) t)
+  word_at : {t : Tree} → Laid plain t → Only 98 (tag_of t) → Stands b p (bytes t) → (z : ℤ) → int_eq (signed (number_at 4 b (p + 1))) z ≡ equal (number z) t
   unfolding equal
-  word_at (row (integer {l} w)) it x =
-      let (h, g) = number_at 98 4 l w x in
-      (integer-is b (p + 1) (is-there 4 b (p + 1) h) (ap signed (sym g)), λ z. refl)
-  word_at l other x = elim other [ ]
+  word_at (row (integer {l} w)) it x z =
+      let (h, g) = number-is 98 4 l w x in
+      rw (at_there 4 b (p + 1) h, g)
+  word_at l other x z = elim other [ ]
 
 -- the key t at p, by its first byte
 module _ {b : List ℕ} {p : ℕ} {t : Tree} (i : Term b p t) where
@@ -129,20 +129,11 @@ module _ {b : List ℕ} {p : ℕ} {t : Tree} (i : Term b p t) where
   pub byte_inside : get_or b p 0 ≡ 97 → p + 1 < length b
   byte_inside h = (byte_at i.laid (only h) i.stands).0
 
-  pub byte_tells : get_or b p 0 ≡ 97 → {z : ℤ} → SFits w64 (pos (get_or b (p + 1) 0)) → SFits w64 z → eqb (get_or b (p + 1) 0) (of_z w64 z) ≡ equal (number z) t
-  byte_tells h {z} f g = by_bits f g ∙ (byte_at i.laid (only h) i.stands).1 z
+  pub byte_tells : get_or b p 0 ≡ 97 → {y z : ℤ} → y ≡ pos (get_or b (p + 1) 0) → SFits w64 y → SFits w64 z → eqb (of_z w64 y) (of_z w64 z) ≡ equal (number z) t
+  byte_tells h {y} {z} e f g = by_bits f g ∙ ap (λ (v : ℤ). int_eq v z) e ∙ (byte_at i.laid (only h) i.stands).1 z
 
-  pub word_tells : get_or b p 0 ≡ 98 → {y z : ℤ} → integer_at b (p + 1) ≡ integer.Is y → SFits w64 y → SFits w64 z → eqb (of_z w64 y) (of_z w64 z) ≡ equal (number z) t
-  word_tells h {y} {z} e f g =
-      let w = word_at i.laid (only h) i.stands in
-      let q : y ≡ signed (be (front_of t)) = cc in
-      by_bits f g ∙ ap (λ (v : ℤ). same_integer v z) q ∙ w.1 z
-
-  pub word_there : get_or b p 0 ≡ 98 → integer_at b (p + 1) ≡ integer.Eof → ⊥
-  word_there h e =
-      let w = word_at i.laid (only h) i.stands in
-      let z : ◌≡◌ {A = ℕ} 0 1 = cc in
-      omega arith
+  pub word_tells : get_or b p 0 ≡ 98 → {y z : ℤ} → y ≡ signed (number_at 4 b (p + 1)) → SFits w64 y → SFits w64 z → eqb (of_z w64 y) (of_z w64 z) ≡ equal (number z) t
+  word_tells h {y} {z} e f g = by_bits f g ∙ ap (λ (v : ℤ). int_eq v z) e ∙ word_at i.laid (only h) i.stands z
 
   -- with another tag it isn't compared
   pub not-atom : (s : List ℕ) → ¬ (get_or b p 0 ≡ 119) → ¬ ((get_or b p 0 ≡ 100) ⊎ (get_or b p 0 ≡ 118)) → equal (name s) t ≡ false

@@ -8,17 +8,20 @@ use lib.Dec.{eqb}
 use lib.IntN.{pos}
 use lib.ListN.{length, drop}
 use borrow.Author.Tests.{eqb-true, eqb-false, ne_eqb}
+use Rattle.std.specs.Prelude.{Option, Some, None}
+use Rattle.std.specs.Option.{option_or}
+use Rattle.std.specs.Ordering.{int_eq}
+use Rattle.std.specs.Str.{bytes_eq}
+use Rattle.std.proofs.lemmas.Bool.Decides.{Decides-int_eq}
+use Rattle.std.proofs.lemmas.Slice.Eq.{bytes_eq-Decides}
 use Rattle.fields.specs.Be.{be, signed}
 use Rattle.numbers.specs.Numbers as answer
-use Rattle.reading.specs.declared.Answer.{Answer}
+use Rattle.reading.specs.Told.{Told}
 use Rattle.reading.specs.Answer.{refusal}
 use Rattle.layouts.specs.Tree.{Tree, Forest, node, none, more, count, bytes, tag_of}
-use Rattle.lookup.specs.declared.Place.{Place}
-use Rattle.lookup.specs.declared.Place.TheVariants as place
 use Rattle.lookup.specs.Lookup.{Key, name, number, Equal, atom_119, atom_100, atom_118, integer_97, integer_98}
 use Rattle.lookup.specs.Lookup.{Without, no_pairs, one_more, Last, first, later, Answers, is_found, is_absent, no_map}
-use Rattle.lookup.specs.Inner.Found.{same_bytes, same_integer, equal, or_else, found, Says, told, looked}
-use Rattle.lookup.proofs.Compare.{bytes-only, bytes_itself, integer-only, integer_itself}
+use Rattle.lookup.specs.Inner.Found.{equal, found, Says, told, looked}
 
 -- the children of a term
 abbrev pub kids_of : Tree → Forest
@@ -29,29 +32,29 @@ is-equal : (k : Key) (t : Tree) → equal k t ≡ true → Equal k t
 unfolding equal
 is-equal (name s) (node tag front kids back) = go (eqb tag 119) (eqb tag 100) (eqb tag 118) refl refl refl
   where
-    long : {t : ℕ} → same_bytes (drop 2 front) s ≡ true → Equal (name (drop 2 front)) (node t front kids back) → Equal (name s) (node t front kids back)
-    long {t} h e = subst (λ (l : List ℕ). Equal (name l) (node t front kids back)) (bytes-only (drop 2 front) s h) e
+    long : {t : ℕ} → bytes_eq (drop 2 front) s ≡ true → Equal (name (drop 2 front)) (node t front kids back) → Equal (name s) (node t front kids back)
+    long {t} h e = subst (λ (l : List ℕ). Equal (name l) (node t front kids back)) ((bytes_eq-Decides (drop 2 front) s).0 h) e
 
-    go : (x y z : Bool) → eqb tag 119 ≡ x → eqb tag 100 ≡ y → eqb tag 118 ≡ z → cond x (same_bytes (drop 1 front) s) (cond (y || z) (same_bytes (drop 2 front) s) false) ≡ true → Equal (name s) (node tag front kids back)
-    go true y z e f g h = rw (eqb-true tag 119 e) (subst (λ (l : List ℕ). Equal (name l) (node 119 front kids back)) (bytes-only (drop 1 front) s h) atom_119)
+    go : (x y z : Bool) → eqb tag 119 ≡ x → eqb tag 100 ≡ y → eqb tag 118 ≡ z → cond x (bytes_eq (drop 1 front) s) (cond (y || z) (bytes_eq (drop 2 front) s) false) ≡ true → Equal (name s) (node tag front kids back)
+    go true y z e f g h = rw (eqb-true tag 119 e) (subst (λ (l : List ℕ). Equal (name l) (node 119 front kids back)) ((bytes_eq-Decides (drop 1 front) s).0 h) atom_119)
     go false true z e f g h = rw (eqb-true tag 100 f) (long h atom_100)
     go false false true e f g h = rw (eqb-true tag 118 g) (long h atom_118)
     go false false false e f g h = absurd (let z : ◌≡◌ {A = ℕ} 0 1 = cc in omega arith)
 is-equal (number z) (node tag front kids back) = go (eqb tag 97) (eqb tag 98) refl refl
   where
-    go : (x y : Bool) → eqb tag 97 ≡ x → eqb tag 98 ≡ y → cond x (same_integer (pos (be front)) z) (cond y (same_integer (signed (be front)) z) false) ≡ true → Equal (number z) (node tag front kids back)
-    go true y e f h = rw (eqb-true tag 97 e, ← integer-only (pos (be front)) z h) integer_97
-    go false true e f h = rw (eqb-true tag 98 f, ← integer-only (signed (be front)) z h) integer_98
+    go : (x y : Bool) → eqb tag 97 ≡ x → eqb tag 98 ≡ y → cond x (int_eq (pos (be front)) z) (cond y (int_eq (signed (be front)) z) false) ≡ true → Equal (number z) (node tag front kids back)
+    go true y e f h = rw (eqb-true tag 97 e, ← (Decides-int_eq (pos (be front)) z).0 h) integer_97
+    go false true e f h = rw (eqb-true tag 98 f, ← (Decides-int_eq (signed (be front)) z).0 h) integer_98
     go false false e f h = absurd (let z : ◌≡◌ {A = ℕ} 0 1 = cc in omega arith)
 
 -- and one that is equal is told to be
 told-equal : {k : Key} {t : Tree} → Equal k t → equal k t ≡ true
 unfolding equal
-told-equal (atom_119 {l}) = bytes_itself (drop 1 l)
-told-equal (atom_100 {l}) = bytes_itself (drop 2 l)
-told-equal (atom_118 {l}) = bytes_itself (drop 2 l)
-told-equal (integer_97 {l}) = integer_itself (pos (be l))
-told-equal (integer_98 {l}) = integer_itself (signed (be l))
+told-equal (atom_119 {l}) = (bytes_eq-Decides (drop 1 l) _).1 refl
+told-equal (atom_100 {l}) = (bytes_eq-Decides (drop 2 l) _).1 refl
+told-equal (atom_118 {l}) = (bytes_eq-Decides (drop 2 l) _).1 refl
+told-equal (integer_97 {l}) = (Decides-int_eq (pos (be l)) _).1 refl
+told-equal (integer_98 {l}) = (Decides-int_eq (signed (be l)) _).1 refl
 
 unequal : (k : Key) (t : Tree) → equal k t ≡ false → ¬ Equal k t
 unequal k t h e = let z : true ≡ false = sym (told-equal e) ∙ h in absurd (let y : ◌≡◌ {A = ℕ} 0 1 = cc in omega arith)
@@ -76,31 +79,31 @@ module _ (k : Key) where
       p' : ℕ
       p' = p + length (bytes x) + length (bytes y)
 
-      go : (o : Place) (e : Bool) → equal k x ≡ e → Says k p' ts o → Says k p (more x (more y ts)) (or_else o (cond e (place.At (p + length (bytes x))) place.Nowhere))
-      go (place.At q) e f s = later s
-      go place.Nowhere true f s = first (is-equal k x f) s refl
-      go place.Nowhere false f s = one_more (unequal k x f) s
+      go : (o : Option ℕ) (e : Bool) → equal k x ≡ e → Says k p' ts o → Says k p (more x (more y ts)) (option_or o (cond e (Some (p + length (bytes x))) None))
+      go (Some q) e f s = later s
+      go None true f s = first (is-equal k x f) s refl
+      go None false f s = one_more (unequal k x f) s
 
   -- and the words say it of nothing else
-  none_found : {ts : Forest} (p : ℕ) → Without k ts → found k p ts ≡ place.Nowhere
+  none_found : {ts : Forest} (p : ℕ) → Without k ts → found k p ts ≡ None
   unfolding found
   none_found p no_pairs = refl
   none_found p (one_more {x} e w) = rw (none_found _ w, told_unequal k x e)
 
-  last_found : {q p : ℕ} {ts : Forest} → Last k q p ts → found k p ts ≡ place.At q
+  last_found : {q p : ℕ} {ts : Forest} → Last k q p ts → found k p ts ≡ Some q
   unfolding found
   last_found (first e w f) = rw (none_found _ w, told-equal e, f)
   last_found (later l) = rw (last_found l)
 
-  pub says_found : (o : Place) (p : ℕ) (ts : Forest) → Says k p ts o → found k p ts ≡ o
-  says_found (place.At q) p ts s = last_found s
-  says_found place.Nowhere p ts s = none_found p s
+  pub says_found : (o : Option ℕ) (p : ℕ) (ts : Forest) → Says k p ts o → found k p ts ≡ o
+  says_found (Some q) p ts s = last_found s
+  says_found None p ts s = none_found p s
 
   -- the answer, of a term whose children come in pairs where it is a map
-  module _ (at : ℕ) (a : Answer) where
-    says_told : {front back : List ℕ} {kids : Forest} (o : Place) → Says k (at + 1 + length front) kids o → Answers k at a (node 116 front kids back) (told at a o)
-    says_told (place.At q) s = is_found s
-    says_told place.Nowhere s = is_absent s
+  module _ (at : ℕ) (a : Told) where
+    says_told : {front back : List ℕ} {kids : Forest} (o : Option ℕ) → Says k (at + 1 + length front) kids o → Answers k at a (node 116 front kids back) (told at a o)
+    says_told (Some q) s = is_found s
+    says_told None s = is_absent s
 
     pub answered : (t : Tree) (m : ℕ) → (tag_of t ≡ 116 → count (kids_of t) ≡ 2 * m) → Answers k at a t (looked k at t a)
     unfolding looked
@@ -110,7 +113,7 @@ module _ (k : Key) where
         go true e = let f = eqb-true tag 116 e in rw f (says_told (found k (at + 1 + length front) kids) (found_says m (at + 1 + length front) kids (even f)))
         go false e = rw e (no_map (eqb-false tag 116 e))
 
-    pub one-looked : {t : Tree} {r : Answer} → Answers k at a t r → r ≡ looked k at t a
+    pub one-looked : {t : Tree} {r : Told} → Answers k at a t r → r ≡ looked k at t a
     unfolding looked
     one-looked (is_found l) = rw (last_found l)
     one-looked (is_absent w) = rw (none_found _ w)

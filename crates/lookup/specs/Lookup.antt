@@ -4,7 +4,7 @@ use Rattle.std.specs.Prelude.{ℕ, ◌+◌, ◌≡◌, List, [], ℤ, pos, lengt
 use Rattle.numbers.specs.Allowed.{plain}
 use Rattle.fields.specs.Be.{be, signed}
 use Rattle.numbers.specs.Numbers as answer
-use Rattle.reading.specs.declared.Answer.{Answer}
+use Rattle.reading.specs.Told.{Told}
 use Rattle.reading.specs.Answer.{refusal, read_at}
 use Rattle.layouts.specs.Tree.{Tree, Forest, node, none, more, bytes, tag_of, Stands}
 use Rattle.layouts.specs.Layout.{Laid}
@@ -34,18 +34,18 @@ pub data Last (k : Key) (q : ℕ) : ℕ → Forest → Type 0 where
   later : {p : ℕ} {x y : Tree} {ts : Forest} → Last k q (p + length (bytes x) + length (bytes y)) ts → Last k q p (more x (more y ts))
 
 -- "its value's offset is the answer"
-abbrev pub moved : ℕ → Answer → Answer
+abbrev pub moved : ℕ → Told → Told
 moved q a = record { number = a.number; end = a.end; offset = q; extra = a.extra; begun = a.begun; deepest = a.deepest; len = a.len; path = a.path }
 
 -- "after reading Kind, then Absent", "both at the map's offset, path empty": by the term that was read at a place, with the counts of reading
 -- it, which answered a
-pub data Answers (k : Key) (at : ℕ) (a : Answer) : Tree → Answer → Type 0 where
+pub data Answers (k : Key) (at : ℕ) (a : Told) : Tree → Told → Type 0 where
   is_found : {q : ℕ} {n back : List ℕ} {ts : Forest} → Last k q (at + 1 + length n) ts → Answers k at a (node 116 n ts back) (moved q a)
   is_absent : {n back : List ℕ} {ts : Forest} → Without k ts → Answers k at a (node 116 n ts back) (refusal answer.Absent at 0 a.begun a.deepest [])
   no_map : {t : Tree} → ¬ (tag_of t ≡ 116) → Answers k at a t (refusal answer.Kind at (tag_of t) a.begun a.deepest [])
 
 -- "It reads the whole term there, at nesting 1": as reading refuses; else by the term that stands there, which is one and no other by the
 -- laws of layouts (read_sound, unique)
-pub record Looked (b : List ℕ) (at limit : ℕ) (k : Key) (r : Answer) : Type 0 where
+pub record Looked (b : List ℕ) (at limit : ℕ) (k : Key) (r : Told) : Type 0 where
   pub refused : ¬ ((read_at b at limit).number ≡ 0) → r ≡ read_at b at limit
   pub done : (read_at b at limit).number ≡ 0 → (t : Tree) → Laid plain t → Stands b at (bytes t) → Answers k at (read_at b at limit) t r

@@ -1,6 +1,6 @@
 -- The first pass looks ahead: where items are open and others are still to come, these are judged by what the open ones wait for. `Fine` says that
 -- all will be well from here; each step of the pass keeps whether it will. Assumes nothing.
-use Rattle.std.proofs.Common.{◌≡◌, ℕ, suc, ◌+◌, ◌-◌, ◌<◌, ◌≤◌, Bool, true, false, cond, ◌↔◌, List, [], ◌∷◌, ◌++◌, length, sym, refl, ap, ◌∙◌, arith, length-append, eq-eqb, le-leb}
+use Rattle.std.proofs.Common.{◌≡◌, ℕ, suc, ◌+◌, ◌-◌, ◌<◌, ◌≤◌, Bool, true, false, cond, ◌↔◌, List, [], ◌∷◌, ◌++◌, length, Option, Some, None, sym, refl, ap, ◌∙◌, arith, length-append, eq-eqb, le-leb}
 use native.Mathlib.Nat.{le-max_left, le-max_right, max-le}
 use Rattle.numbers.specs.Caps as cap
 use Rattle.layouts.specs.Tree.{Forest, node, none, more, count, depth, depths, bytes, bytes_all}
@@ -158,30 +158,31 @@ at_first s = record {
       omega arith;
 }
 
-refused : (s : List Item) → ¬ (accepted s ≡ true) → 0 ≡ needed s
+refused : (s : List Item) → ¬ (accepted s ≡ true) → None ≡ needed s
 unfolding needed
 refused s h = go (accepted s) h
   where
-    go : (x : Bool) → ¬ (x ≡ true) → 0 ≡ cond x (length (written s)) 0
+    go : (x : Bool) → ¬ (x ≡ true) → None ≡ cond {A = Option ℕ} x (Some (length (written s))) None
     go true h = absurd (h refl)
     go false h = refl
 
 -- a row that isn't sound, and one whose rest can't be well, is refused
-pub unsound : (s : List Item) → sound s ≡ false → 0 ≡ needed s
+pub unsound : (s : List Item) → sound s ≡ false → None ≡ needed s
 unsound s e = refused s (λ t. let g = (accepted-is s t).goes in omega (arith, ap {B = ℕ} (λ (z : Bool). cond z 1 0) (sym e ∙ g)))
 
-pub fails : {s : List Item} {fs : List Frame} {rest : List Item} {size : ℕ} → Judged s fs rest size → ¬ (Fine fs rest size) → 0 ≡ needed s
+pub fails : {s : List Item} {fs : List Frame} {rest : List Item} {size : ℕ} → Judged s fs rest size → ¬ (Fine fs rest size) → None ≡ needed s
 fails {s} j h = refused s (λ e. h (j.same.0 e))
 
 -- the root is closed at the row's end
-pub ends : {s : List Item} {tail : List ℕ} {size : ℕ} → Judged s (frame 0 tail ∷ []) [] size → size ≤ cap.input → size ≡ needed s
+pub ends : {s : List Item} {tail : List ℕ} {size : ℕ} → Judged s (frame 0 tail ∷ []) [] size → size ≤ cap.input → Some size ≡ needed s
 unfolding needed due Shallow total sound trees_of count first depths bytes_all
 ends {s} {tail} {size} j h =
     let e = j.same.1 (record { goes = refl; counted = refl; shallow = (omega arith, tt); short = omega arith }) in
-    rw e (omega (arith, j.adds e))
+    let same : size ≡ length (written s) = omega (arith, j.adds e) in
+    rw e (ap Some same)
 
 -- and not before it
-pub goes_on : {s : List Item} {tail : List ℕ} {i : Item} {rest : List Item} {size : ℕ} → Judged s (frame 0 tail ∷ []) (i ∷ rest) size → 0 ≡ needed s
+pub goes_on : {s : List Item} {tail : List ℕ} {i : Item} {rest : List Item} {size : ℕ} → Judged s (frame 0 tail ∷ []) (i ∷ rest) size → None ≡ needed s
 unfolding total trees_of count
 goes_on j = fails j (λ f. omega (arith, f.counted))
 
@@ -194,21 +195,21 @@ shut {s} {tail} {fs} {rest} {size} l j =
 
 module _ {s : List Item} {n : ℕ} {tail : List ℕ} {fs : List Frame} {size : ℕ} where
   -- the row ends early
-  pub lacks : Judged s (frame (suc n) tail ∷ fs) [] size → 0 ≡ needed s
+  pub lacks : Judged s (frame (suc n) tail ∷ fs) [] size → None ≡ needed s
   unfolding total trees_of count
   lacks j = fails j (λ f. omega (arith, f.counted))
 
   module _ {i : Item} {rest : List Item} (l : length fs + 1 ≤ cap.nesting) (j : Judged s (frame (suc n) tail ∷ fs) (i ∷ rest) size) where
     -- an item that isn't allowed
-    pub wrong_item : allowed i ≡ false → 0 ≡ needed s
+    pub wrong_item : allowed i ≡ false → None ≡ needed s
     wrong_item e = fails j (λ f. let t = ((coming i rest n tail fs size l).0 f).0 in omega (arith, ap {B = ℕ} (λ (z : Bool). cond z 1 0) (sym e ∙ t)))
 
     -- one whose bytes are too many
-    pub too_long : cap.input < size + (length (head_of i) + length (tail_of i)) → 0 ≡ needed s
+    pub too_long : cap.input < size + (length (head_of i) + length (tail_of i)) → None ≡ needed s
     too_long h = fails j (λ f. omega (arith, ((coming i rest n tail fs size l).0 f).1.1.short))
 
     -- one whose children or tail would be nested too deep
-    pub too_deep : cap.nesting ≤ length fs + 1 → 1 ≤ kids_of i + length (tail_of i) → 0 ≡ needed s
+    pub too_deep : cap.nesting ≤ length fs + 1 → 1 ≤ kids_of i + length (tail_of i) → None ≡ needed s
     too_deep h k = fails j (λ f. omega (arith, opens-within i rest n tail fs size l f k))
 
     -- one that goes

@@ -1,13 +1,12 @@
 -- What is still to come behind an item's first bytes: of an item that is allowed it is its children and its tail, of whatever kind it is. And an
 -- item that is neither one without children nor one with some isn't allowed. Assumes nothing.
-use Rattle.std.proofs.Common.{◌≡◌, ℕ, ◌+◌, ◌*◌, ◌/◌, ◌%◌, ◌≤◌, Bool, true, false, cond, eqb, ltb, leb, List, [], ◌∷◌, length, take, drop, sym, refl, ap, ◌∙◌, inl, inr, arith, ltb-false, ltb-true, ne_eqb, eqb-true, le-leb, leb-false, leb-true}
+use Rattle.std.proofs.Common.{◌≡◌, ℕ, ◌+◌, ◌*◌, ◌/◌, ◌%◌, ◌≤◌, Bool, true, false, cond, eqb, ltb, leb, List, [], ◌∷◌, length, take, drop, Option, Some, None, sym, refl, ap, ◌∙◌, inl, inr, arith, ltb-false, ltb-true, ne_eqb, eqb-true, le-leb, leb-false, leb-true}
 use borrow.Author.Tests.{eqb-false}
 use Rattle.numbers.specs.Caps as cap
-use Rattle.layouts.specs.Tree.{Tree, node, none}
+use Rattle.layouts.specs.Tree.{Tree, node}
 use Rattle.measure.specs.Item.{Item, atom, binary, wrong, text_at, item_of, kids_of, allowed}
-use Rattle.measure.specs.Term.{tree_of}
 use Rattle.measure.specs.Inner.Own.{head_in, head_of, tail_of, own_of, Parent, Leaf, Alone, Around, twos_of, owes_of}
-use Rattle.measure.proofs.Items.{kind_known, by_kinds, own_none, own_is}
+use Rattle.measure.proofs.Items.{kind_known, by_kinds, own_is}
 use Rattle.measure.proofs.Frames.{frame, tail_by, frame_of}
 
 -- a double number is half itself and nothing; one more is half itself and a tail
@@ -65,17 +64,15 @@ module _ (texts : List ℕ) (x y : ℕ) where
 some-head : (t : Tree) → 1 ≤ length (head_in t)
 some-head (node tag front kids back) = omega arith
 
--- an item that is allowed has a byte of its own, and one that has some is allowed
-some_own : (i : Item) → allowed i ≡ true → 1 ≤ own_of i
-unfolding head_of
-some_own i a = rw (own_is i a) (omega (arith, some-head (tree_of i none)))
-
-is-allowed : (i : Item) → ¬ (own_of i ≡ 0) → allowed i ≡ true
-is-allowed i h = go (allowed i) refl
-  where
-    go : (x : Bool) → allowed i ≡ x → allowed i ≡ true
-    go true e = e
-    go false e = absurd (h (own_none i (λ t. let z : ◌≡◌ {A = ℕ} 0 1 = ap {B = ℕ} (λ (y : Bool). cond y 0 1) (sym t ∙ e) in omega arith)))
+-- an item of which bytes are told is allowed, and these are its own
+module _ (i : Item) {n : ℕ} (h : Some n ≡ own_of i) where
+  told : (allowed i ≡ true) × (n ≡ length (head_of i) + length (tail_of i))
+  unfolding own_of
+  told = go (allowed i) refl h
+    where
+      go : (x : Bool) → allowed i ≡ x → Some n ≡ cond {A = Option ℕ} x (Some (length (head_of i) + length (tail_of i))) None → (allowed i ≡ true) × (n ≡ length (head_of i) + length (tail_of i))
+      go true e f = (e, cc)
+      go false e f = absurd (cc)
 
 -- a kind is with children or without
 by_kind : (P : Type 0) (kind : ℕ) → (Parent kind → P) → (Leaf kind → P) → P
@@ -108,37 +105,37 @@ module _ (texts : List ℕ) (kind x y : ℕ) where
   over a e = let (k, t) = halves (owes_of kind x) (owed_is texts x y kind a) in (omega arith, no_bytes (tail_of item) (omega arith))
 
   -- nothing is told of it: it isn't allowed
-  pub neither : Alone item kind 0 → Around kind x 0 → allowed item ≡ false
+  pub neither : Alone item kind None → Around kind x None → allowed item ≡ false
   neither a b = go (allowed item) refl
     where
       go : (z : Bool) → allowed item ≡ z → z ≡ false
       go false e = refl
-      go true e = let s = some_own item e in by_kind _ kind (λ p. absurd (omega (arith, b.is p texts y))) (λ l. absurd (omega (arith, a.is l)))
+      go true e = let s = own_is item e in by_kind _ kind (λ p. let t = b.is p texts y in absurd (cc)) (λ l. let t = a.is l in absurd (cc))
 
   -- an item without children
-  module _ {r : ℕ} (a : Alone item kind r) (h : ¬ (r ≡ 0)) where
+  module _ {n : ℕ} (a : Alone item kind (Some n)) where
     leaf_kind : Leaf kind
-    leaf_kind = by_kind _ kind (λ p. absurd (h (a.other p))) (λ l. l)
+    leaf_kind = by_kind _ kind (λ p. let t = a.other p in absurd (cc)) (λ l. l)
 
     pub alone_allowed : allowed item ≡ true
-    alone_allowed = is-allowed item (λ e. h (a.is leaf_kind ∙ e))
+    alone_allowed = (told item (a.is leaf_kind)).0
 
     pub alone_over : (kids_of item ≡ 0) × (tail_of item ≡ [])
     alone_over = over alone_allowed (none_comes kind x leaf_kind)
 
-    pub alone_bytes : r ≡ length (head_of item)
-    alone_bytes = a.is leaf_kind ∙ own_is item alone_allowed ∙ rw alone_over.1 (omega arith)
+    pub alone_bytes : n ≡ length (head_of item)
+    alone_bytes = (told item (a.is leaf_kind)).1 ∙ rw alone_over.1 (omega arith)
 
   -- one with children
-  module _ {r : ℕ} (b : Around kind x r) (h : ¬ (r ≡ 0)) where
+  module _ {n : ℕ} (b : Around kind x (Some n)) where
     parent_kind : Parent kind
-    parent_kind = by_kind _ kind (λ p. p) (λ l. absurd (h (b.other l)))
+    parent_kind = by_kind _ kind (λ p. p) (λ l. let t = b.other l in absurd (cc))
 
     pub around_allowed : allowed item ≡ true
-    around_allowed = is-allowed item (λ e. h (b.is parent_kind texts y ∙ e))
+    around_allowed = (told item (b.is parent_kind texts y)).0
 
-    pub around_bytes : r ≡ length (head_of item) + length (tail_of item)
-    around_bytes = b.is parent_kind texts y ∙ own_is item around_allowed
+    pub around_bytes : n ≡ length (head_of item) + length (tail_of item)
+    around_bytes = (told item (b.is parent_kind texts y)).1
 
-    pub around_over : owes_of kind x ≡ 0 → r ≡ length (head_of item)
+    pub around_over : owes_of kind x ≡ 0 → n ≡ length (head_of item)
     around_over e = around_bytes ∙ rw (over around_allowed e).1 (omega arith)

@@ -1,10 +1,12 @@
 -- What an item's three numbers say, kind by kind: the item, whether it is allowed, its first bytes and how many they are. Assumes nothing.
-use Rattle.std.proofs.Common.{◌≡◌, ℕ, zero, suc, ◌+◌, ◌-◌, ◌%◌, ◌<◌, ◌≤◌, Bool, true, false, cond, eqb, ltb, leb, ◌↔◌, List, [], ◌∷◌, ◌++◌, length, take, drop, pos, negsuc, refl, ◌∙◌, add-one, arith, length-append, length-drop, length-take-le, ltb-false, ltb-true, le-ltb, lt-ltb, eq-eqb, ne_eqb, eqb-true, le-leb, leb-false, leb-true}
+use Rattle.std.proofs.Common.{◌≡◌, ℕ, zero, suc, ◌+◌, ◌-◌, ◌*◌, ◌/◌, ◌%◌, ◌^◌, ◌<◌, ◌≤◌, Bool, true, false, cond, eqb, ltb, leb, ◌↔◌, List, [], ◌∷◌, ◌++◌, length, take, drop, Option, Some, None, pos, negsuc, sym, refl, ap, ◌∙◌, add-one, pow-suc, le_trans, lt_of_lt_of_le, arith, length-append, length-drop, length-take-le, ltb-false, ltb-true, le-ltb, lt-ltb, eq-eqb, ne_eqb, eqb-true, le-leb, leb-false, leb-true}
 use borrow.Author.Tests.{lt-leb}
+use Rattle.std.proofs.Math.Nat.{pow-le-pow_right}
 use Rattle.numbers.specs.Caps as cap
 use Rattle.fields.specs.Be.{bytes_of, digits_of}
 use Rattle.fields.proofs.Inverse.{length-bytes_of, bytes_of-one}
 use Rattle.fields.proofs.Digits.{digits-length}
+use Rattle.utf8.proofs.Eights.{places}
 use Rattle.utf8.specs.Inner.Find.{good_bytes}
 use Rattle.measure.specs.Item.{Item, integer, double, atom, binary, tuple, list, map, nil, wrong, signed64, text_at, item_of, allowed}
 use Rattle.measure.specs.Term.{big, integer_tree, tree_of}
@@ -86,22 +88,22 @@ below-zero x h k =
 
 -- ---- whether it is allowed
 
--- where it isn't, no byte is its own
-pub own_none : (i : Item) → ¬ (allowed i ≡ true) → own_of i ≡ 0
+-- where it isn't, none is told
+pub own_none : (i : Item) → ¬ (allowed i ≡ true) → own_of i ≡ None
 unfolding own_of
 own_none i h = go (allowed i) refl
   where
-    go : (x : Bool) → allowed i ≡ x → cond x (length (head_of i) + length (tail_of i)) 0 ≡ 0
+    go : (x : Bool) → allowed i ≡ x → cond {A = Option ℕ} x (Some (length (head_of i) + length (tail_of i))) None ≡ None
     go true e = absurd (h e)
     go false e = refl
 
-pub own_is : (i : Item) → allowed i ≡ true → own_of i ≡ length (head_of i) + length (tail_of i)
+pub own_is : (i : Item) → allowed i ≡ true → own_of i ≡ Some (length (head_of i) + length (tail_of i))
 unfolding own_of
 own_is i e = rw e
 
 -- what has no tail
-pub own_head : (i : Item) → allowed i ≡ true → tail_of i ≡ [] → own_of i ≡ length (head_of i)
-own_head i e t = own_is i e ∙ rw t (omega arith)
+pub own_head : (i : Item) → allowed i ≡ true → tail_of i ≡ [] → own_of i ≡ Some (length (head_of i))
+own_head i e t = let same : length (head_of i) + length (tail_of i) ≡ length (head_of i) = rw t (omega arith) in own_is i e ∙ ap Some same
 
 pub text_tail : (f : List ℕ → Item) (texts : List ℕ) (at n : ℕ) → ((l : List ℕ) → tail_of (f l) ≡ []) → tail_of (text_at f texts at n) ≡ []
 unfolding text_at tail_of
@@ -277,19 +279,11 @@ length-text tag k texts at n h e = rw e (omega (arith, length-append (bytes_of k
 pub length-big : {l : List ℕ} (sign n : ℕ) → l ≡ head_in (big sign n) → length l ≡ 3 + length (digits_of 8 n)
 length-big sign n e = rw (e, head-big sign n) (omega arith)
 
--- a big integer's digits, by ranges
-module _ (n : ℕ) where
-  pub four_digits : 16777216 ≤ n → n < 4294967296 → length (digits_of 8 n) ≡ 4
-  four_digits h k = digits-length 8 n 3 (omega arith) h k
-
-  pub five_digits : 4294967296 ≤ n → n < 1099511627776 → length (digits_of 8 n) ≡ 5
-  five_digits h k = digits-length 8 n 4 (omega arith) h k
-
-  pub six-digits : 1099511627776 ≤ n → n < 281474976710656 → length (digits_of 8 n) ≡ 6
-  six-digits h k = digits-length 8 n 5 (omega arith) h k
-
-  pub seven_digits : 281474976710656 ≤ n → n < 72057594037927936 → length (digits_of 8 n) ≡ 7
-  seven_digits h k = digits-length 8 n 6 (omega arith) h k
-
-  pub eight_digits : 72057594037927936 ≤ n → n < 18446744073709551616 → length (digits_of 8 n) ≡ 8
-  eight_digits h k = digits-length 8 n 7 (omega arith) h k
+-- a big integer's digits, by the power of two in it
+pub digits_by_log : (n k : ℕ) → 2 ^ k ≤ n → n < 2 * 2 ^ k → k < 64 → k / 8 + 1 ≡ length (digits_of 8 n)
+digits_by_log n k l u h =
+    let j = k / 8 in
+    let double : 2 * 2 ^ k ≡ 2 ^ suc k = omega (arith, pow-suc 2 k) in
+    let low : 256 ^ j ≤ n = rw (places j) (le_trans (pow-le-pow_right {n = 2} (omega arith) {i = 8 * j} {j = k} (omega arith)) l) in
+    let top : n < 256 ^ suc j = rw (places (suc j)) (lt_of_lt_of_le u (rw double (pow-le-pow_right {n = 2} (omega arith) {i = suc k} {j = 8 * suc j} (omega arith)))) in
+    sym (digits-length 8 n j (omega arith) low top ∙ omega arith)

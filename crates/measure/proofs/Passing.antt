@@ -1,5 +1,5 @@
 -- The first pass over a row's numbers: what its loop keeps, and each way a turn can go. Assumes nothing.
-use Rattle.std.proofs.Common.{◌≡◌, ℕ, suc, ◌+◌, ◌-◌, ◌/◌, ◌%◌, ◌<◌, ◌≤◌, true, false, List, [], ◌∷◌, length, get_or, set, refl, ◌∙◌, arith, length-set}
+use Rattle.std.proofs.Common.{◌≡◌, ℕ, suc, ◌+◌, ◌-◌, ◌/◌, ◌%◌, ◌<◌, ◌≤◌, true, false, List, [], ◌∷◌, length, get_or, set, Some, None, refl, ◌∙◌, arith, length-set}
 use Rattle.numbers.specs.Caps as cap
 use Rattle.measure.specs.Item.{Item, items_of, kids_of, allowed}
 use Rattle.measure.specs.Term.{needed}
@@ -31,11 +31,11 @@ module _ (texts row : List ℕ) where
       closed = let j = g.judged in rw (idle os depth left h) at j
 
       -- the root is closed
-      pub all : depth ≡ 0 → i ≡ length row → size ≡ needed (items_of texts row)
+      pub all : depth ≡ 0 → i ≡ length row → Some size ≡ needed (items_of texts row)
       unfolding outer
       all d e = let j = closed in ahead.ends (rw (items.no_more texts row e, d) at j) g.short
 
-      pub more : depth ≡ 0 → ¬ (i ≡ length row) → 0 ≡ needed (items_of texts row)
+      pub more : depth ≡ 0 → ¬ (i ≡ length row) → None ≡ needed (items_of texts row)
       unfolding outer
       more d e = let j = closed in ahead.goes_on (rw (items.one_more texts row i (omega (arith, g.within, g.threes.0, g.threes.1)), d) at j)
 
@@ -50,7 +50,7 @@ module _ (texts row : List ℕ) where
       waits : Judged (items_of texts row) (frame (suc ((left - 2) / 2)) (tail_by left) ∷ outer os depth) (items.from texts row i) size
       waits = let j = g.judged in rw (busy os depth left h) at j
 
-      pub lacks : i ≡ length row → 0 ≡ needed (items_of texts row)
+      pub lacks : i ≡ length row → None ≡ needed (items_of texts row)
       lacks e = let j = waits in ahead.lacks (rw (items.no_more texts row e) at j)
 
       -- and an item
@@ -67,13 +67,13 @@ module _ (texts row : List ℕ) where
         inside : length (outer os depth) + 1 ≤ cap.nesting
         inside = omega (arith, outer_length os depth, g.level)
 
-        pub wrong : allowed item ≡ false → 0 ≡ needed (items_of texts row)
+        pub wrong : allowed item ≡ false → None ≡ needed (items_of texts row)
         wrong e = ahead.wrong_item inside comes e
 
-        pub too_long : cap.input < size + (length (head_of item) + length (tail_of item)) → 0 ≡ needed (items_of texts row)
+        pub too_long : cap.input < size + (length (head_of item) + length (tail_of item)) → None ≡ needed (items_of texts row)
         too_long e = ahead.too_long inside comes e
 
-        pub too_deep : cap.nesting ≤ depth + 1 → 1 ≤ kids_of item + length (tail_of item) → 0 ≡ needed (items_of texts row)
+        pub too_deep : cap.nesting ≤ depth + 1 → 1 ≤ kids_of item + length (tail_of item) → None ≡ needed (items_of texts row)
         too_deep d e = ahead.too_deep inside comes (omega (arith, outer_length os depth)) e
 
         -- an item that is done with at once

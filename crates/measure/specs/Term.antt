@@ -1,6 +1,6 @@
 -- The term that a row of items is, and the bytes that are written of it. Document 02, P1. A row is read from its end: an item takes as many of the
 -- trees behind it as it has children, and is a tree itself.
-use Rattle.std.specs.Prelude.{ℕ, zero, suc, ◌-◌, Bool, true, cond, ◌&&◌, List, [], ◌∷◌, ◌++◌, length, ℤ, pos, negsuc, ◌==◌, nat_le, nat_lt}
+use Rattle.std.specs.Prelude.{ℕ, zero, suc, ◌-◌, Bool, true, cond, ◌&&◌, List, [], ◌∷◌, ◌++◌, length, ℤ, pos, negsuc, ◌==◌, nat_le, nat_lt, Option, Some, None}
 use Rattle.numbers.specs.Caps as cap
 use Rattle.fields.specs.Be.{bytes_of, digits_of}
 use Rattle.layouts.specs.Tree.{Tree, Forest, node, none, more, leaf, count, bytes_all, depths}
@@ -62,6 +62,6 @@ written s = 131 ∷ bytes_all (trees_of s)
 unfoldable pub accepted : List Item → Bool
 accepted s = sound s && count (trees_of s) == 1 && nat_le (depths (trees_of s)) cap.nesting && nat_le (length (written s)) cap.input
 
--- the bytes that a row needs; 0 where it is refused
-unfoldable pub needed : List Item → ℕ
-needed s = cond (accepted s) (length (written s)) 0
+-- the bytes that a row needs; None where it is refused
+unfoldable pub needed : List Item → Option ℕ
+needed s = cond (accepted s) (Some (length (written s))) None

@@ -8,48 +8,48 @@ use mathlib.Core.List.{List, ◌++◌}
 use mathlib.Core.Bool.{Bool, true, false, ◌||◌}
 use lib.Dec.{eqb, ltb}
 use lib.ListN.{length, take}
+use Rattle.std.specs.Prelude.{Result, Ok, Err}
 use Rattle.numbers.specs.Caps as cap
-use Rattle.numbers.specs.Numbers as number
-use Rattle.numbers.proofs.Laws.{Shown}
+use Rattle.numbers.specs.declared.Refusal.{Refusal}
+use Rattle.numbers.specs.declared.Refusal.TheVariants as refusal
 use Rattle.rows.proofs.Ends.{Agree}
 use Rattle.references.specs.Header.{start_of, header_of}
-use Rattle.references.proofs.Local.{Whole, local_start, local_segment}
+use Rattle.references.proofs.Local.{Whole, whole, local_start, local_segment}
 use Rattle.names.specs.Form.{Held, Form, over}
-use Rattle.names.proofs.Outcomes.{put_outcome}
 use Rattle.names.proofs.Local.{Local, refusing, either, over_local, rest-inside, size_alone, leaves_alone, leaves_front, says_front}
 use Rattle.cache.specs.declared.Cache.{Cache}
 use Rattle.cache.specs.Names.{store_bytes, slots}
-use Rattle.cache.proofs.Lawful.{put-shown}
 use Rattle.header.proofs.Leaving.{of}
 use Rattle.message.specs.Message.{flat, headed, allowed_in, message_over}
 
 -- segment numbers lie before the rest, as the flags do
-flat-same : {b c : List ℕ} → Whole b → Agree b c (header_of b).rest → length c ≤ cap.input → flat c (start_of c) ≡ flat b (start_of b)
+flat-same : {b c : List ℕ} {e : ℕ} → Whole b e → Agree b c e → length c ≤ cap.input → flat c (start_of c) ≡ flat b (start_of b)
 unfolding flat
 flat-same w a l = rw (local_start w a l, w.begins) (local_segment w a l)
 
--- a header over a cache of any form, whose own refusals are of the list
-module _ (F : Form) (shown : (s : F.State) (i : ℕ) (n : List ℕ) → Shown (put_outcome (F.put s i n))) (s : F.State) where
-  is-flat : (b : List ℕ) → (headed F b s).number ≡ 0 → flat b (start_of b) ≡ true
+-- a header over a cache of any form
+module _ (F : Form) (s : F.State) where
+  is-flat : (b : List ℕ) {e : ℕ} → (headed F b s).rest ≡ Ok e → flat b (start_of b) ≡ true
   unfolding headed
-  is-flat b d = go (flat b (start_of b)) refl
+  is-flat b {e} d = go (flat b (start_of b)) refl
     where
       go : (t : Bool) → flat b (start_of b) ≡ t → flat b (start_of b) ≡ true
-      go true e = e
-      go false e = let z : number.Segment ≡ 0 = rw e at d in absurd (omega arith)
+      go true f = f
+      go false f =
+          let z : ◌≡◌ {A = Result ℕ Refusal} (Err refusal.Segment) (Ok e) = rw f at d in
+          absurd (let z : ◌≡◌ {A = ℕ} 0 1 = cc in omega arith)
 
   pub headed_local : Local (λ b. headed F b s)
   unfolding headed
   headed_local = record {
-    whole = λ {b} d. L.whole (done b d);
-    rest = λ {b} d. rw (is-flat b d) (L.rest (done b d));
-    same = λ {b} d a l. rw (flat-same (L.whole (done b d)) a l, is-flat b d) (L.same (done b d) a l);
+    ends = λ {b} d. L.ends (done b d);
+    same = λ {b} d a l. rw (flat-same (whole b (L.ends (done b d))) a l, is-flat b d) (L.same (done b d) a l);
   }
     where
       L : Local (λ b. over F b (header_of b) s)
-      L = over_local F shown s
+      L = over_local F s
 
-      done : (b : List ℕ) → (headed F b s).number ≡ 0 → (over F b (header_of b) s).number ≡ 0
+      done : (b : List ℕ) {e : ℕ} → (headed F b s).rest ≡ Ok e → (over F b (header_of b) s).rest ≡ Ok e
       done b d = rw (is-flat b d) at d
 
 -- over slots
@@ -57,22 +57,22 @@ module _ (limit : ℕ) (c : Cache) (s : List ℕ) where
   pub message_local : Local (λ b. message_over b limit c s)
   unfolding message_over
   message_local =
-      either (eqb limit 0 || ltb cap.nesting limit) (refusing _ (λ e. omega arith))
-      (either (eqb (length s) store_bytes) (headed_local slots put-shown (of c s)) (refusing _ (λ e. omega arith)))
+      either (eqb limit 0 || ltb cap.nesting limit) (refusing _ refl)
+      (either (eqb (length s) store_bytes) (headed_local slots (of c s)) (refusing _ refl))
 
   -- up to the rest
-  module _ (b : List ℕ) {e : ℕ} (d : (message_over b limit c s).number ≡ 0) (r : (message_over b limit c s).rest ≡ e) where
+  module _ (b : List ℕ) {e : ℕ} (d : (message_over b limit c s).rest ≡ Ok e) where
     pub message_inside : (3 ≤ e) × (e ≤ length b)
-    message_inside = rest-inside message_local b d r
+    message_inside = rest-inside message_local b d
 
     pub message_alone : (message_over (take e b) limit c s ≡ message_over b limit c s) × (length (take e b) ≡ e)
-    message_alone = (leaves_alone message_local b d r, size_alone message_local b d r)
+    message_alone = (leaves_alone message_local b d, size_alone message_local b d)
 
   -- behind a front
-  module _ (front l : List ℕ) (d : (message_over front limit c s).number ≡ 0) (r : (message_over front limit c s).rest ≡ length front) (h : length (front ++ l) ≤ cap.input) where
+  module _ (front l : List ℕ) (d : (message_over front limit c s).rest ≡ Ok (length front)) (h : length (front ++ l) ≤ cap.input) where
     pub message_front : message_over (front ++ l) limit c s ≡ message_over front limit c s
-    message_front = leaves_front message_local front l d r h
+    message_front = leaves_front message_local front l d h
 
     pub allowed-front : (held : ℕ → Held) → allowed_in held (front ++ l) ≡ allowed_in held front
     unfolding allowed_in
-    allowed-front held = rw (says_front message_local front l d r h)
+    allowed-front held = rw (says_front message_local front l d h)

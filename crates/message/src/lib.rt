@@ -5,24 +5,29 @@
 
 #![tactic(auto)]
 
-ghost use Rattle.std.specs.Prelude.{◌≡◌, ◌≤◌, length, []};
-ghost use Rattle.numbers.specs.Caps as cap;
-ghost use Rattle.references.specs.declared.Opening.TheVariants as opening;
-ghost use Rattle.references.specs.Header.{start_of};
-ghost use Rattle.cache.specs.Names.{store_bytes, slots};
-ghost use Rattle.reading.specs.Answer.{refusal};
+ghost use Rattle.std.specs.Prelude.{◌≡◌};
+ghost use Rattle.cache.specs.Names.{slots};
+ghost use Rattle.reading.specs.Told.{told_of};
 ghost use Rattle.tape.specs.Read.{Promised};
 ghost use Rattle.message.specs.Message.{message_over, message_before, noted_by};
+ghost use Rattle.message.specs.Inner.Headed.{Headed};
 
 use cache::{Cache, STORE_BYTES};
-use reading::{Answer, Cause};
-use references::Opening;
+use numbers::Refusal;
+use reading::{Answer, Asked};
 
 // What a message answers: what reading its term does, and the cache's record now.
 #[derive(Clone, Copy)]
 pub struct MessageRead {
     pub answer: Answer,
     pub cache: Cache,
+}
+
+// What stands before a term: where it starts, and four words whose bit k says whether position k is known in it.
+#[derive(Clone, Copy)]
+struct Term {
+    start: usize,
+    known: [usize; 4],
 }
 
 // Reads an atom header and one term behind it to the input's end, nested at most `limit` deep, and writes the term's tape. Each new name is
@@ -32,75 +37,60 @@ pub struct MessageRead {
 pub fn read(
     b: &[u8],
     limit: usize,
-    c: Cache,
+    cache: Cache,
     store: &mut [u8],
     run: &mut [u8; 256],
     tape: &mut [u32],
 ) -> MessageRead
-    ensures answer { Promised (message_before slots b.now (message_over b.now limit c store.old)) b.now limit result.answer tape.old tape.new }
-    ensures cache { result.cache ≡ (message_over b.now limit c store.old).cache.cache }
-    ensures store { store.new ≡ (message_over b.now limit c store.old).cache.store }
-    ensures run { run.new ≡ noted_by b.now (message_over b.now limit c store.old) run.old }
+    ensures answer { Promised (message_before slots b.now (message_over b.now limit cache store.old)) b.now limit (told_of result.answer) tape.old tape.new }
+    ensures cache { result.cache ≡ (message_over b.now limit cache store.old).cache.cache }
+    ensures store { store.new ≡ (message_over b.now limit cache store.old).cache.store }
+    ensures run { run.new ≡ noted_by b.now (message_over b.now limit cache store.old) run.old }
 {
-    if limit == 0 {
-        return refused(numbers::LIMIT, 0, c);
-    }
-    if numbers::NESTING < limit {
-        return refused(numbers::LIMIT, 0, c);
-    }
-    if store.len() != STORE_BYTES {
-        return refused(numbers::STORE, 0, c);
-    }
-    let start = references::start(b);
-    match start {
-        Opening::At(n, long, first) => headed(b, limit, n, long, first, c, store, run, tape),
-        Opening::No(number, extra) => refused(number, extra, c),
+    let mut now = cache;
+    match headed(b, limit, &mut now, store, run) {
+        Ok(term) => {
+            let known = term.known;
+            let asked = Asked {
+                known,
+                names: true,
+                limit,
+            };
+            MessageRead {
+                answer: tape::behind(b, term.start, asked, tape),
+                cache: now,
+            }
+        }
+        Err(why) => MessageRead {
+            answer: Answer::refused(why, 0, 0, 0),
+            cache: now,
+        },
     }
 }
 
-// The same of a header that begins well, with n references, of which the first stands at `first`.
+// The header, over a cache that is changed: what stands before the term.
 fn headed(
     b: &[u8],
     limit: usize,
-    n: usize,
-    long: bool,
-    first: usize,
-    c: Cache,
+    cache: &mut Cache,
     store: &mut [u8],
     run: &mut [u8; 256],
-    tape: &mut [u32],
-) -> MessageRead
-    requires { (1 ≤ limit) × ((limit ≤ cap.nesting) × ((length store.old ≡ store_bytes) × (start_of b.now ≡ opening.At n long first))) }
-    ensures answer { Promised (message_before slots b.now (message_over b.now limit c store.old)) b.now limit result.answer tape.old tape.new }
-    ensures cache { result.cache ≡ (message_over b.now limit c store.old).cache.cache }
-    ensures store { store.new ≡ (message_over b.now limit c store.old).cache.store }
-    ensures run { run.new ≡ noted_by b.now (message_over b.now limit c store.old) run.old }
+) -> Result<Term, Refusal>
+    ensures { Headed b.now (message_over b.now limit cache.old store.old) result (record { cache = cache.new; store = store.new }) run.old run.new }
 {
-    if !references::one_segment(b, n) {
-        return refused(numbers::SEGMENT, 0, c);
+    if limit == 0 || numbers::NESTING < limit {
+        return Err(Refusal::Limit);
     }
-    let h = header::names(b, n, long, first, c, store);
-    let left = h.cache;
-    if h.number != numbers::DONE {
-        return refused(h.number, h.extra, left);
+    if store.len() != STORE_BYTES {
+        return Err(Refusal::Store);
     }
-    let known = positions::note(b, n, long, first, left, run);
-    let asked = [known[0], known[1], known[2], known[3], 1, limit];
-    let a = tape::behind(b, h.rest, asked, tape);
-    MessageRead {
-        answer: a,
-        cache: left,
+    let opening = references::start(b)?;
+    if !references::one_segment(b, opening.count) {
+        return Err(Refusal::Segment);
     }
-}
-
-// A refusal before the term.
-fn refused(number: u64, extra: u64, c: Cache) -> MessageRead
-    ensures { result ≡ record { answer = refusal number 0 extra 0 0 []; cache = c } }
-{
-    let mut a = reading::refusal(Cause::Eof, 0, extra, 0, 0);
-    a.number = number;
-    MessageRead {
-        answer: a,
-        cache: c,
-    }
+    let header = header::names(b, opening, *cache, store);
+    *cache = header.cache;
+    let start = header.rest?;
+    let known = positions::note(b, opening, header.cache, run);
+    Ok(Term { start, known })
 }

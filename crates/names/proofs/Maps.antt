@@ -6,12 +6,14 @@ use mathlib.Core.Bool.{cond}
 use mathlib.Core.List.{List, [], ◌∷◌}
 use lib.Dec.{eqb}
 use lib.ListN.{take, drop}
+use Rattle.std.specs.Prelude.{Some, Result, Ok, Err}
+use Rattle.numbers.specs.declared.Refusal.{Refusal}
 use Rattle.utf8.proofs.Eights.{take-bytes, drop-bytes}
 use Rattle.references.specs.declared.Reference.{Reference}
 use Rattle.references.specs.declared.Reference.TheVariants as ref
 use Rattle.references.specs.Header.{header_of}
 use Rattle.references.proofs.Every.{All, none, more, Fits, new, all_fit}
-use Rattle.names.specs.Form.{Held, name, Put, done, no, Form, Left, after, put_all, over}
+use Rattle.names.specs.Form.{Held, Form, Left, after, put_all, over}
 use Rattle.names.specs.Inner.Map.{updated, Named, updated_all, completing, completed, Bytes, Lawful}
 
 bytes-part : (b : List ℕ) (n p : ℕ) → Bytes b → Bytes (take n (drop p b))
@@ -21,30 +23,30 @@ bytes-part b n p h = take-bytes n (drop p b) (drop-bytes p b h)
 same_map : (ns : List Named) (f g : ℕ → Held) → ((j : ℕ) → f j ≡ g j) → (j : ℕ) → updated_all f ns j ≡ updated_all g ns j
 unfolding updated_all updated
 same_map [] f g h j = h j
-same_map (n ∷ ns) f g h j = same_map ns _ _ (λ k. ap (λ (x : Held). cond (eqb n.slot k) (name n.name) x) (h k)) j
+same_map (n ∷ ns) f g h j = same_map ns _ _ (λ k. ap (λ (x : Held). cond (eqb n.slot k) (Some n.name) x) (h k)) j
 
 module _ (F : Form) where
   -- by what becomes of a name
   module _ (s : F.State) (n : Named) (more : F.State → Left F.State) (next : F.State → List Named) where
-    by_put : (j : ℕ) → ((t : F.State) → F.put s n.slot n.name ≡ done t → F.held (more t).cache j ≡ updated_all (updated (F.held s) n.slot n.name) (next t) j) →
+    by_put : (j : ℕ) → ((t : F.State) → F.put s n.slot n.name ≡ Ok t → F.held (more t).cache j ≡ updated_all (updated (F.held s) n.slot n.name) (next t) j) →
         F.held (after s more (F.put s n.slot n.name)).cache j ≡ updated_all (F.held s) (completing n next (F.put s n.slot n.name)) j
     unfolding after completing updated_all
     by_put j h = go (F.put s n.slot n.name) h
       where
-        go : (p : Put F.State) → ((t : F.State) → p ≡ done t → F.held (more t).cache j ≡ updated_all (updated (F.held s) n.slot n.name) (next t) j) →
+        go : (p : Result F.State Refusal) → ((t : F.State) → p ≡ Ok t → F.held (more t).cache j ≡ updated_all (updated (F.held s) n.slot n.name) (next t) j) →
             F.held (after s more p).cache j ≡ updated_all (F.held s) (completing n next p) j
-        go (done t) h = h t refl
-        go (no m x) h = refl
+        go (Ok t) h = h t refl
+        go (Err r) h = refl
 
-    by_state : (P : F.State → Type 0) → P s → ((t : F.State) → F.put s n.slot n.name ≡ done t → P (more t).cache) → P (after s more (F.put s n.slot n.name)).cache
+    by_state : (P : F.State → Type 0) → P s → ((t : F.State) → F.put s n.slot n.name ≡ Ok t → P (more t).cache) → P (after s more (F.put s n.slot n.name)).cache
     unfolding after
     by_state P h k = go (F.put s n.slot n.name) k
       where
-        go : (p : Put F.State) → ((t : F.State) → p ≡ done t → P (more t).cache) → P (after s more p).cache
-        go (done t) k = k t refl
-        go (no m x) k = h
+        go : (p : Result F.State Refusal) → ((t : F.State) → p ≡ Ok t → P (more t).cache) → P (after s more p).cache
+        go (Ok t) k = k t refl
+        go (Err r) k = h
 
-  module _ {Sound : F.State → Type 0} (L : Lawful F Sound) (b : List ℕ) (low : Bytes b) (rest : ℕ) where
+  module _ {Sound : F.State → Type 0} (L : Lawful F Sound) (b : List ℕ) (low : Bytes b) (rest : Result ℕ Refusal) where
     pub put_all_lem : (rs : List Reference) → All (Fits b) rs → (s : F.State) → Sound s → (j : ℕ) →
         F.held (put_all F b rest rs s).cache j ≡ updated_all (F.held s) (completed F b rs s) j
     unfolding put_all completed updated_all
@@ -54,7 +56,6 @@ module _ (F : Form) where
         let low' = bytes-part b n at low in
         by_put s (record { slot = slot; name = take n (drop at b) }) (put_all F b rest rs) (completed F b rs) j
         (λ t q. put_all_lem rs fs t (L.put_sound h i low' q) j ∙ same_map (completed F b rs t) _ _ (L.put_view h i low' q) j)
-    put_all_lem (ref.No n x ∷ rs) f s h j = refl
 
     pub all_sound : (rs : List Reference) → All (Fits b) rs → (s : F.State) → Sound s → Sound (put_all F b rest rs s).cache
     unfolding put_all
@@ -63,7 +64,6 @@ module _ (F : Form) where
     all_sound (ref.New slot at n ∷ rs) (more (new i e) fs) s h =
         by_state s (record { slot = slot; name = take n (drop at b) }) (put_all F b rest rs) (λ t. []) Sound h
         (λ t q. all_sound rs fs t (L.put_sound h i (bytes-part b n at low) q))
-    all_sound (ref.No n x ∷ rs) f s h = h
 
   -- so of a whole header, over a cache that the form's own calls made
   module _ {Sound : F.State → Type 0} (L : Lawful F Sound) (b : List ℕ) (low : Bytes b) (s : F.State) (h : Sound s) where

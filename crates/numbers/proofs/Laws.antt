@@ -2,12 +2,17 @@
 -- to; and laws of tests, by which a proof goes by a number as a `match` does. Assumes nothing.
 use Prim.Native.Nat.{ℕ, zero, suc, ◌<◌}
 use native.Mathlib.Omega.{arith}
-use mathlib.Core.Path.{◌≡◌, refl}
+use mathlib.Core.Path.{◌≡◌, refl, ap}
 use mathlib.Core.Bool.{Bool, true, false, cond, ◌||◌}
 use mathlib.Core.Logic.{◌⊎◌, inl, inr}
 use borrow.Author.Tests.{eqb-true, eqb-false, ne_eqb}
 use lib.Dec.{eqb}
+use Rattle.std.specs.Prelude.{Result, Ok, Err}
+use Rattle.std.specs.Result.{IsErr, IsErrAnd}
 use Rattle.numbers.specs.Numbers.{among, Listed}
+use Rattle.numbers.specs.Refusal.{number_of}
+use Rattle.numbers.specs.declared.Refusal.{Refusal}
+use Rattle.numbers.specs.declared.Refusal.TheVariants as refusal
 
 -- what an answer comes to: Done, or refused by a number. Each type of answers has a definition of this, named after it
 pub data Outcome : Type 0 where
@@ -26,7 +31,7 @@ Shown (refused n) = Listed n
 
 pub listed_some : (n : ℕ) → Listed n → 0 < n
 unfolding among
-listed_some zero h = absurd (let z : ◌≡◌ {A = ℕ} 0 1 = cc in omega arith)
+listed_some zero h = absurd cc
 listed_some (suc n) h = omega arith
 
 pub listed_shown : (n : ℕ) → Listed n → Shown (outcome n)
@@ -36,6 +41,33 @@ listed_shown (suc n) h = h
 pub shown_listed : (n : ℕ) → Shown (outcome n) → ¬ (n ≡ 0) → Listed n
 shown_listed zero h k = absurd (k refl)
 shown_listed (suc n) h k = h
+
+-- the number of every refusal stands in the list
+pub refusal_listed : (r : Refusal) → Listed (number_of r)
+unfolding among
+refusal_listed refusal.Eof = refl
+refusal_listed refusal.Tag = refl
+refusal_listed refusal.Text = refl
+refusal_listed refusal.Literal = refl
+refusal_listed refusal.Bits = refl
+refusal_listed refusal.Size = refl
+refusal_listed (refusal.Trailing n) = refl
+refusal_listed refusal.Deep = refl
+refusal_listed (refusal.Room n) = refl
+refusal_listed refusal.Long = refl
+refusal_listed refusal.Name = refl
+refusal_listed (refusal.Version n) = refl
+refusal_listed (refusal.Kind n) = refl
+refusal_listed refusal.Limit = refl
+refusal_listed refusal.Store = refl
+refusal_listed refusal.Absent = refl
+refusal_listed refusal.Items = refl
+refusal_listed refusal.Segment = refl
+
+-- what a `?` hands on
+pub handed : {T : Type 0} (r : Result T Refusal) {e : Refusal} → IsErr r × IsErrAnd r (λ x. x ≡ e) → r ≡ Err e
+handed (Err x) h = ap Err h.1
+handed (Ok x) h = absurd h.1
 
 -- what both answers of a test have, its answer has
 pub by_test : {A : Type 0} (P : A → Type 0) (x : Bool) (v w : A) → P v → P w → P (cond x v w)

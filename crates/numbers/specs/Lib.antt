@@ -1,4 +1,5 @@
 pub mod Numbers
+pub mod Refusal
 pub mod Caps
 pub mod Bits
 pub mod Allowed

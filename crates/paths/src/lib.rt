@@ -2,56 +2,32 @@
 
 #![tactic(auto)]
 
-ghost use Rattle.std.specs.Prelude.{◌≤◌};
-ghost use Rattle.numbers.specs.Caps as cap;
-
-use print::Out;
 use reading::{Kind, Segment};
+use std::fmt;
 
-// A path's first `len` segments, joined by /. It holds sixty-four.
-pub fn path(
-    out: &mut Out<'_>,
-    at: usize,
-    segments: [Segment; numbers::NESTING],
-    len: usize,
-) -> usize {
-    let n = shown(len);
-    let mut put = at;
-    let mut i = 0;
-    while i < n {
-        let begin = joint(out, put, i);
-        put = segment(out, begin, segments[i]);
-        i += 1;
-    }
-    put
-}
+// A path: its segments, joined by /.
+#[derive(Clone, Copy)]
+pub struct Path<'a>(pub &'a [Segment]);
 
-// How many of `len` segments there are.
-fn shown(len: usize) -> usize
-    ensures { result ≤ cap.nesting }
-{
-    if len < numbers::NESTING {
-        len
-    } else {
-        numbers::NESTING
+impl<'a> fmt::Display for Path<'a> {
+    fn fmt<W: fmt::Write>(&self, f: &mut fmt::Formatter<W>) -> fmt::Result {
+        for (i, segment) in self.0.iter().enumerate() {
+            if i != 0 {
+                f.write_str("/")?;
+            }
+            write!(f, "{}:{}", name(segment.kind), segment.number)?;
+        }
+        Ok(())
     }
 }
 
-fn joint(out: &mut Out<'_>, at: usize, i: usize) -> usize {
-    if i == 0 {
-        return at;
-    }
-    print::text(out, at, b"/")
-}
-
-fn segment(out: &mut Out<'_>, at: usize, s: Segment) -> usize {
-    let kind = s.kind;
+fn name(kind: Kind) -> &'static str {
     match kind {
-        Kind::Tuple => print::field(out, at, b"tuple:", s.number),
-        Kind::List => print::field(out, at, b"list:", s.number),
-        Kind::Tail => print::field(out, at, b"tail:", s.number),
-        Kind::Key => print::field(out, at, b"key:", s.number),
-        Kind::Value => print::field(out, at, b"value:", s.number),
-        Kind::Free => print::field(out, at, b"free:", s.number),
+        Kind::Tuple => "tuple",
+        Kind::List => "list",
+        Kind::Tail => "tail",
+        Kind::Key => "key",
+        Kind::Value => "value",
+        Kind::Free => "free",
     }
 }

@@ -1,30 +1,32 @@
 -- Noting references one by one: the slots that are left of all of them are those of the references from here on (`Noting`), they are left to be
 -- written to the run (`Writes`), and bit k of the words tells whether position k is known, for the positions passed (`Marks`). A loop over a header
 -- that was accepted keeps the three. Assumes nothing.
-use Prim.Native.Nat.{ℕ, suc, ◌+◌, ◌-◌, ◌≤◌, ◌<◌}
+use Prim.Native.Nat.{ℕ, zero, suc, ◌+◌, ◌-◌, ◌*◌, ◌/◌, ◌%◌, ◌^◌, ◌≤◌, ◌<◌}
 use native.Mathlib.Omega.{arith}
-use native.Mathlib.Nat.{sub-zero}
+use native.Mathlib.Nat.{sub-zero, zero-mul}
 use native.Mathlib.Numerals.{add-one}
 use mathlib.Core.Path.{◌≡◌, refl, sym, ap, ◌∙◌}
-use mathlib.Core.Bool.{Bool, true, false, cond, ◌&&◌, ◌||◌, and-true, and-false, or-false}
+use mathlib.Core.Bool.{Bool, true, false, cond, ◌&&◌, ◌||◌, and-true, and-false, or-false, false≢true}
 use mathlib.Core.List.{List, [], ◌∷◌}
 use borrow.Author.Tests.{eqb-true, eqb-false, lt-ltb, le-ltb, ltb-true, ltb-false}
+use lib.Bits.{bit_or, or_zero_r}
 use lib.Dec.{eqb, ltb}
+use mir.Val.{bool_byte}
 use lib.ListN.{length, get_or, set, drop, replicate}
 use lib.Seq.{sets, drop-cons}
+use Rattle.std.specs.Prelude.{Result, Ok, Err, IsOk, IfOk}
 use Rattle.numbers.specs.Bits.{bit}
+use Rattle.numbers.specs.declared.Refusal.{Refusal}
 use Rattle.references.specs.declared.Reference.{Reference}
 use Rattle.references.specs.declared.Reference.TheVariants as ref
-use Rattle.references.specs.Header.{is_new, reference_at, behind, references, slots_of}
-use Rattle.references.proofs.Reading.{found, found_old}
+use Rattle.references.specs.Header.{is_new, reference_at, past, behind, references, slots_of}
+use Rattle.references.proofs.Reading.{found, found_old, first_byte}
 use Rattle.names.specs.Positions.{known_at}
 use Rattle.cache.specs.Names.{filled, marked, view}
 use Rattle.cache.proofs.Marks.{marked-filled, marked-length, empty_filled}
 use Rattle.cache.proofs.Views.{view-name}
-use Rattle.cache.proofs.Writes.{sets_more, sets_all}
+use Rattle.cache.proofs.Writes.{sets_more, sets_all, shifted}
 use Rattle.positions.specs.Positions.{noted}
-use Rattle.positions.specs.Inner.Past.{Good, past}
-use Rattle.positions.proofs.Passing.{first_byte}
 
 -- of n references those from number i on are left, from p on; `whole` are the slots of all
 pub record Noting (b whole : List ℕ) (wide n i p : ℕ) : Type 0 where
@@ -35,13 +37,13 @@ starts b wide n p = record { rest = rw sub-zero refl }
 
 -- the next reference is good, its slot is the byte that stands there, and the rest goes on behind it
 pub record Next (b whole : List ℕ) (new : Bool) (wide n i p : ℕ) : Type 0 where
-  pub good : Good (reference_at b new wide p)
+  pub good : IsOk (reference_at b new wide p)
   pub here : p < length b
   pub slot : get_or b p 0 ≡ get_or whole i 0
-  pub next : Noting b whole wide n (i + 1) (past p (reference_at b new wide p))
+  pub next : IfOk (reference_at b new wide p) (λ r. Noting b whole wide n (i + 1) (past p r))
 
 module _ {b whole : List ℕ} {wide n i p : ℕ} (all : length whole ≡ n) (h : i < n) (l : Noting b whole wide n i p) where
-  one : {r : Reference} → reference_at b (is_new b i) wide p ≡ r → get_or whole i 0 ∷ drop (i + 1) whole ≡ slots_of (behind p (references b wide (i + 1) (n - (i + 1))) r).references
+  one : {r : Result Reference Refusal} → reference_at b (is_new b i) wide p ≡ r → get_or whole i 0 ∷ drop (i + 1) whole ≡ slots_of (behind p (references b wide (i + 1) (n - (i + 1))) r).references
   unfolding references
   one q =
       let e : n - i ≡ suc (n - (i + 1)) = omega arith in
@@ -49,24 +51,30 @@ module _ {b whole : List ℕ} {wide n i p : ℕ} (all : length whole ≡ n) (h :
       rw (e, d, q) at l.rest
 
   at : Next b whole (is_new b i) wide n i p
-  unfolding behind slots_of
+  unfolding behind
   at = go (reference_at b (is_new b i) wide p) refl
     where
-      go : (r : Reference) → reference_at b (is_new b i) wide p ≡ r → Next b whole (is_new b i) wide n i p
-      go (ref.Old slot) q =
+      go : (r : Result Reference Refusal) → reference_at b (is_new b i) wide p ≡ r → Next b whole (is_new b i) wide n i p
+      go (Ok (ref.Old slot)) q =
           let f : get_or whole i 0 ∷ drop (i + 1) whole ≡ slot ∷ slots_of (references b wide (i + 1) (n - (i + 1)) (p + 1)).references = one q in
           let s = first_byte b p (found_old b (is_new b i) wide p q).1 in
-          record { good = rw q tt; here = s.0; slot = s.1 ∙ (cc); next = rw q (record { rest = cc }) }
-      go (ref.New slot from k) q =
+          record { good = rw q refl; here = s.0; slot = s.1 ∙ (cc); next = rw q (record { rest = cc }) }
+      go (Ok (ref.New slot from k)) q =
           let f : get_or whole i 0 ∷ drop (i + 1) whole ≡ slot ∷ slots_of (references b wide (i + 1) (n - (i + 1)) (from + k)).references = one q in
           let s = first_byte b p (found b (is_new b i) wide p q).first in
-          record { good = rw q tt; here = s.0; slot = s.1 ∙ (cc); next = rw q (record { rest = cc }) }
-      go (ref.No k x) q =
+          record { good = rw q refl; here = s.0; slot = s.1 ∙ (cc); next = rw q (record { rest = cc }) }
+      go (Err r) q =
           let f : get_or whole i 0 ∷ drop (i + 1) whole ≡ [] = one q in
           absurd (let z : ◌≡◌ {A = ℕ} 0 1 = cc in omega arith)
 
   pub nexts : {new : Bool} → new ≡ is_new b i → Next b whole new wide n i p
   nexts u = rw u at
+
+-- the place behind a good reference is where the next one begins
+pub follows : {b whole : List ℕ} {wide n i q : ℕ} (p : ℕ) (r : Result Reference Refusal) → IsOk r → IfOk r (λ x. q ≡ past p x) →
+    IfOk r (λ x. Noting b whole wide n i (past p x)) → Noting b whole wide n i q
+follows p (Ok x) h e l = rw e l
+follows p (Err x) h e l = absurd (false≢true h)
 
 -- the run, of which byte 0 is written: all slots behind that, over the run as it was, come to those left over the run as it is by now
 pub record Writes (whole first run : List ℕ) (i : ℕ) : Type 0 where
@@ -129,9 +137,20 @@ module _ {words whole known : List ℕ} {i : ℕ} (m : Marks words whole known i
   unfolding known_at
   marked_all e = (m.four, λ s k. rw (e, view-name words s (get_or whole k 0)) (m.bits k))
 
+-- a word's bit that is set by a shift, where `on`
+set_there : (l : List ℕ) (i : ℕ) → set l i (get_or l i 0) ≡ l
+set_there [] i = refl
+set_there (x ∷ l) zero = refl
+set_there (x ∷ l) (suc i) = ap (λ (r : List ℕ). x ∷ r) (set_there l i)
+
+pub shifted_in : (w : List ℕ) (i : ℕ) (on : Bool) {n : ℕ} → n ≡ bool_byte on →
+    set w (i / 64) (bit_or (get_or w (i / 64) 0) (n * 2 ^ (i % 64) % 2 ^ 64)) ≡ cond on (marked w i) w
+unfolding marked
+shifted_in w i true e = rw (e, shifted (i % 64) (omega arith))
+shifted_in w i false e = rw (e, zero-mul (2 ^ (i % 64)), or_zero_r (get_or w (i / 64) 0)) (set_there w (i / 64))
+
 -- the three together, over the words of a cache, with the run as it was and, after those, what there is by now
 pub record Kept (b whole words first : List ℕ) (wide n : ℕ) (run known : List ℕ) (i p : ℕ) : Type 0 where
-  pub within : i ≤ n
   pub refs : Noting b whole wide n i p
   pub bytes : Writes whole first run i
   pub tells : Marks words whole known i

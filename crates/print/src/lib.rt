@@ -1,265 +1,145 @@
-// Text on its way to standard output, for the programs that show answers: a lent buffer, and how many bytes wait in it.
+// Text on its way to standard output, for the programs that show answers: a lent buffer that is written where it has no room left, and by
+// `flush`. What is printed is held against stored output by the programs' tests.
 //
-// Each function adds some text and answers how many bytes wait then. What waits is written where the buffer has no room left, and by `flush`.
-// All take any buffer and any number of waiting bytes: more than the buffer has are as many as it has. What is printed is held against stored
-// output by the programs' tests.
-//
-// A failure is final. What can't be written is said once, and FAILED is answered instead of a number of bytes: who gets it adds nothing, writes
-// nothing and answers it again. How a program ends is noted where it shows, and `status` is for its `main`.
+// A failure is final. What can't be written is said once, and who prints after it gets the same error at once: nothing is added and nothing
+// written. How a program ends is noted where it shows, and `status` is for its `main`.
 
 #![tactic(auto)]
 
-ghost use Rattle.std.specs.Prelude.{◌≤◌, ◌+◌, length};
+ghost use Rattle.std.specs.Prelude.{◌≤◌, length};
 
-use std::io;
 use std::io::{ErrorKind, Print, Stderr, Stdout};
 use std::process::ExitCode;
+use std::{fmt, io};
 
-// The output has failed.
-pub const FAILED: usize = usize::MAX;
+// How a program ends, by its status. The last is that of one whose output is a pipe that nobody reads: it says nothing of that.
+#[derive(Clone, Copy)]
+enum Ending {
+    Well = 0,
+    Refused = 1,
+    Unread = 2,
+    Unwritten = 3,
+    Piped = 141,
+}
 
-// The statuses of a program, but for 0. The last is that of one whose output is a pipe that nobody reads: it says nothing of that.
-const REFUSED: u8 = 1;
-
-const UNREAD: u8 = 2;
-
-const UNWRITTEN: u8 = 3;
-
-const PIPED: u8 = 141;
-
-// Standard output behind a lent buffer, where failures are said, and the status that was noted.
+// Standard output behind a lent buffer, of which so many bytes wait, where failures are said, and how the program ends.
 #[derive(Drop)]
 pub struct Out<'a> {
     room: &'a mut [u8],
+    waits: usize,
     to: Stdout,
     errors: Stderr,
-    status: u8,
+    ending: Ending,
+    ghost within: { waits ≤ length room.now },
 }
 
 impl<'a> Out<'a> {
     pub fn new(room: &'a mut [u8], to: Stdout, errors: Stderr) -> Out<'a> {
         Out {
             room,
+            waits: 0,
             to,
             errors,
-            status: 0,
+            ending: Ending::Well,
         }
     }
-}
 
-pub fn text(out: &mut Out<'_>, at: usize, text: &[u8]) -> usize {
-    if at == FAILED {
-        return FAILED;
+    // Writes what waits.
+    pub fn flush(&mut self) -> fmt::Result {
+        self.open()?;
+        let written = self.to.write_all(&self.room[..self.waits]);
+        self.waits = 0;
+        self.told(written)
     }
-    let from = least(at, out.room.len());
-    if text.len() <= out.room.len() - from {
-        return copy(out.room, from, text);
-    }
-    if flush(out, from) == FAILED {
-        return FAILED;
-    }
-    if text.len() <= out.room.len() {
-        return copy(out.room, 0, text);
-    }
-    let written = write(&out.to, text);
-    told(out, written)
-}
 
-// Writes what waits. Answers that nothing waits any more, or FAILED.
-pub fn flush(out: &mut Out<'_>, at: usize) -> usize {
-    if at == FAILED {
-        return FAILED;
-    }
-    let to = out.to;
-    let n = least(at, out.room.len());
-    let written = write(&to, &out.room[..n]);
-    told(out, written)
-}
-
-// Nothing waits after a write; of one that failed it is said.
-fn told(out: &mut Out<'_>, written: io::Result<()>) -> usize {
-    let Err(error) = written else {
-        return 0;
-    };
-    if let ErrorKind::BrokenPipe = error.kind() {
-        out.status = PIPED;
-        return FAILED;
-    }
-    ends(out, b"the output could not be written\n", UNWRITTEN);
-    FAILED
-}
-
-// What a program says that can't read its input.
-pub fn unread(out: &mut Out<'_>) {
-    ends(out, b"standard input could not be read\n", UNREAD);
-}
-
-// Writes what waits of an answer that is a refusal, and tells by the status that it is one.
-pub fn refused(out: &mut Out<'_>, at: usize) {
-    if flush(out, at) != FAILED {
-        out.status = REFUSED;
-    }
-}
-
-fn ends(out: &mut Out<'_>, text: &[u8], status: u8) {
-    let _ = write(&out.errors, text);
-    out.status = status;
-}
-
-// What `main` returns.
-pub fn status(out: &Out<'_>) -> ExitCode {
-    ExitCode::from(out.status)
-}
-
-// Writes all of a text, or stops at the first write that takes nothing or fails. Where there is no text, nothing is called.
-fn write(to: &impl Print, text: &[u8]) -> io::Result<()> {
-    let mut done = 0;
-    while done < text.len() {
-        let n = to.write_some(&text[done..])?;
-        if n == 0 {
-            return Err(ErrorKind::WriteZero.into());
-        }
-        done += n;
-    }
-    Ok(())
-}
-
-fn copy(out: &mut [u8], at: usize, text: &[u8]) -> usize
-    requires { at + length text.now ≤ length out.old }
-{
-    let mut i = 0;
-    while i < text.len() {
-        out[at + i] = text[i];
-        i += 1;
-    }
-    at + i
-}
-
-fn least(a: usize, b: usize) -> usize
-    ensures { (result ≤ a) × (result ≤ b) }
-{
-    if a < b { a } else { b }
-}
-
-pub fn number(out: &mut Out<'_>, at: usize, n: u64) -> usize {
-    let mut digits = [0u8; 20];
-    let first = decimal(n, &mut digits);
-    text(out, at, &digits[first..])
-}
-
-// Puts a number's decimal digits at the end of a text, and answers where they begin. No number has more than twenty.
-fn decimal(n: u64, digits: &mut [u8; 20]) -> usize
-    ensures { result ≤ 20 }
-{
-    let mut rest = n;
-    let mut first = 20;
-    while 0 < first {
-        first -= 1;
-        digits[first] = b'0' + (rest % 10) as u8;
-        rest /= 10;
-        if rest == 0 {
-            return first;
+    // Whether nothing has failed yet.
+    fn open(&self) -> fmt::Result {
+        match self.ending {
+            Ending::Unwritten | Ending::Piped => Err(fmt::Error),
+            _ => Ok(()),
         }
     }
-    first
-}
 
-// The number whose two's complement a word is.
-pub fn twos(out: &mut Out<'_>, at: usize, word: u64) -> usize {
-    if 9223372036854775807 < word {
-        return field(out, at, b"-", u64::MAX - word + 1);
+    // Of a write that failed it is said.
+    fn told(&mut self, written: io::Result<()>) -> fmt::Result {
+        let Err(error) = written else {
+            return Ok(());
+        };
+        if error.kind() == ErrorKind::BrokenPipe {
+            self.ending = Ending::Piped;
+        } else {
+            self.ends("the output could not be written", Ending::Unwritten);
+        }
+        Err(fmt::Error)
     }
-    number(out, at, word)
-}
 
-// A number behind its name.
-pub fn field(out: &mut Out<'_>, at: usize, name: &[u8], n: u64) -> usize {
-    let named = text(out, at, name);
-    number(out, named, n)
-}
-
-// The same as a line.
-pub fn line(out: &mut Out<'_>, at: usize, name: &[u8], n: u64) -> usize {
-    let put = field(out, at, name, n);
-    text(out, put, b"\n")
-}
-
-// A text in which # and a digit stand for one of some numbers, by its place among them.
-pub fn form(out: &mut Out<'_>, at: usize, form: &[u8], numbers: &[u64]) -> usize {
-    let mut put = at;
-    let mut before = 0u8;
-    let mut i = 0;
-    while i < form.len() {
-        let letter = form[i];
-        put = filled(out, put, before, letter, numbers);
-        before = letter;
-        i += 1;
+    // What a program says that can't read its input.
+    pub fn unread(&mut self) {
+        self.ends("standard input could not be read", Ending::Unread);
     }
-    put
+
+    // Writes what waits of an answer that is a refusal, and tells by the status that it is one.
+    pub fn refused(&mut self) -> fmt::Result {
+        self.flush()?;
+        self.ending = Ending::Refused;
+        Ok(())
+    }
+
+    fn ends(&mut self, why: &str, ending: Ending) {
+        let _ = self.errors.println(why);
+        self.ending = ending;
+    }
+
+    // What `main` returns.
+    pub fn status(&self) -> ExitCode {
+        ExitCode::from(self.ending as u8)
+    }
 }
 
-// What a letter of a form stands for, by the one before it.
-fn filled(out: &mut Out<'_>, at: usize, before: u8, letter: u8, numbers: &[u64]) -> usize {
-    if letter == b'#' {
-        return at;
+impl<'a> fmt::Write for Out<'a> {
+    fn write_str(&mut self, text: &str) -> fmt::Result {
+        self.open()?;
+        if self.room.len() - self.waits < text.len() {
+            self.flush()?;
+        }
+        if self.room.len() - self.waits < text.len() {
+            let written = self.to.write_all(text.as_bytes());
+            return self.told(written);
+        }
+        let end = self.waits + text.len();
+        self.room[self.waits..end].copy_from_slice(text.as_bytes());
+        self.waits = end;
+        Ok(())
     }
-    if before == b'#' {
-        return nth(out, at, digit(letter), numbers);
-    }
-    text(out, at, &[letter])
-}
-
-fn digit(letter: u8) -> usize {
-    if letter < b'0' {
-        return 0;
-    }
-    (letter - b'0') as usize
-}
-
-// Nothing where there are fewer numbers.
-fn nth(out: &mut Out<'_>, at: usize, k: usize, numbers: &[u64]) -> usize {
-    if k < numbers.len() {
-        return number(out, at, numbers[k]);
-    }
-    at
-}
-
-// The bits of a double, sixteen letters of hex.
-pub fn bits(out: &mut Out<'_>, at: usize, n: u64) -> usize {
-    hex(out, at, &n.to_be_bytes())
 }
 
 // Bytes as hex.
-pub fn hex(out: &mut Out<'_>, at: usize, bytes: &[u8]) -> usize {
-    let mut put = at;
-    let mut i = 0;
-    while i < bytes.len() {
-        put = pair(out, put, bytes[i]);
-        i += 1;
+#[derive(Clone, Copy)]
+pub struct Hex<'a>(pub &'a [u8]);
+
+impl<'a> fmt::Display for Hex<'a> {
+    fn fmt<W: fmt::Write>(&self, f: &mut fmt::Formatter<W>) -> fmt::Result {
+        // eight at a time where there are so many, which is faster
+        let (words, rest) = self.0.as_chunks::<8>();
+        for word in words {
+            write!(f, "{:016x}", u64::from_be_bytes(*word))?;
+        }
+        for byte in rest {
+            write!(f, "{byte:02x}")?;
+        }
+        Ok(())
     }
-    put
 }
 
 // Bytes as a word: - where there are none.
-pub fn word(out: &mut Out<'_>, at: usize, bytes: &[u8]) -> usize {
-    if bytes.len() == 0 {
-        return text(out, at, b"-");
-    }
-    hex(out, at, bytes)
-}
+#[derive(Clone, Copy)]
+pub struct Word<'a>(pub &'a [u8]);
 
-// A byte as two letters.
-fn pair(out: &mut Out<'_>, at: usize, byte: u8) -> usize {
-    let letters = [letter(byte / 16), letter(byte % 16)];
-    text(out, at, &letters)
-}
-
-fn letter(digit: u8) -> u8
-    requires { digit ≤ 15 }
-{
-    if digit < 10 {
-        b'0' + digit
-    } else {
-        b'a' - 10 + digit
+impl<'a> fmt::Display for Word<'a> {
+    fn fmt<W: fmt::Write>(&self, f: &mut fmt::Formatter<W>) -> fmt::Result {
+        if self.0.is_empty() {
+            return f.write_str("-");
+        }
+        Hex(self.0).fmt(f)
     }
 }

@@ -11,8 +11,11 @@ use borrow.Author.Tests.{ltb-true, ltb-false, lt-ltb, le-ltb}
 use Rattle.numbers.specs.Caps as cap
 use Rattle.numbers.specs.Allowed.{Allowed}
 use Rattle.numbers.specs.Numbers as number
+use Rattle.numbers.specs.Refusal.{number_of}
+use Rattle.numbers.specs.declared.Refusal.{Refusal}
+use Rattle.numbers.specs.declared.Refusal.TheVariants as why
 use Rattle.numbers.proofs.Laws.{listed_some}
-use Rattle.reading.specs.declared.Answer.{Answer}
+use Rattle.reading.specs.Told.{Told}
 use Rattle.reading.specs.declared.Segment.{Segment}
 use Rattle.reading.specs.Reading.{State, Result, done, no, reach, begin, refused}
 use Rattle.reading.specs.Terms.{term}
@@ -48,7 +51,7 @@ module _ (allow : Allowed) (b : List ℕ) (limit : ℕ) where
     where
       go : (x : Bool) → ltb s.at (length b) ≡ x → s.at < length b
       go true h = ltb-true s.at (length b) h
-      go false h = let f : refused number.Eof (reach s) ≡ done t = sym (at-end left s (ltb-false s.at (length b) h)) ∙ e in absurd (let z : ◌≡◌ {A = ℕ} 0 1 = cc in omega arith)
+      go false h = let f : refused number.Eof (reach s) ≡ done t = sym (at-end left s (ltb-false s.at (length b) h)) ∙ e in absurd cc
 
   bounds : (s : State) → Keeps b limit (Within b limit s) (Refused b limit s)
   bounds s = record {
@@ -78,7 +81,7 @@ module _ (allow : Allowed) (b : List ℕ) (limit : ℕ) where
   unfolding term
   ends zero s t e =
       let f : refused number.Deep (reach s) ≡ done t = rw (lt-ltb s.at (length b) (started zero s t e)) at e in
-      absurd (let z : ◌≡◌ {A = ℕ} 0 1 = cc in omega arith)
+      absurd cc
   ends (suc left) s t e =
       let w = rw e at (behind left s (omega (arith, started (suc left) s t e))) in
       (omega arith, w.inside)
@@ -88,7 +91,7 @@ module _ (allow : Allowed) (b : List ℕ) (limit : ℕ) where
   few left s t h e = (rw e at (within left s h)).short
 
 -- the answer of reading at a place of the input
-pub record Bounded (b : List ℕ) (at limit : ℕ) (a : Answer) : Type 0 where
+pub record Bounded (b : List ℕ) (at limit : ℕ) (a : Told) : Type 0 where
   pub counted : a.begun ≤ length b - at
   pub offset : a.offset ≤ length b
   pub end : a.end ≤ length b
@@ -103,10 +106,10 @@ module _ (allow : Allowed) (b : List ℕ) (at : ℕ) where
 
   pub bounded : (limit : ℕ) → at ≤ length b → Bounded b at limit (read_by allow b at limit)
   unfolding read_by answer
-  bounded limit h = by-start limit (length b) (Bounded b at limit) _ (unread number.Limit (omega arith)) (unread number.Long (omega arith)) (λ k m l. read limit refl k m)
+  bounded limit h = by-start limit (length b) (Bounded b at limit) _ (unread why.Limit (omega arith)) (unread why.Long (omega arith)) (λ k m l. read limit refl k m)
     where
-      unread : (n : ℕ) → 0 < n → Bounded b at limit (early n)
-      unread n k = record { counted = omega arith; offset = omega arith; end = omega arith; after = λ e. omega arith; nested = omega arith; short = omega arith; fits = omega arith }
+      unread : (r : Refusal) → 0 < number_of r → Bounded b at limit (early r)
+      unread r k = record { counted = omega arith; offset = omega arith; end = omega arith; after = λ e. omega arith; nested = omega arith; short = omega arith; fits = omega arith }
 
       told : (left : ℕ) (o : Result) → left < limit → limit ≤ cap.nesting → let t = begin (limit - left) start in Held (Within b limit t) (Refused b limit t) (suc left) o → Bounded b at limit (answer o)
       told left (done t) m l k = record { counted = omega arith; offset = omega arith; end = k.inside; after = λ e. omega arith; nested = omega arith; short = omega arith; fits = omega arith }

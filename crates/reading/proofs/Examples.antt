@@ -12,7 +12,7 @@ use Rattle.numbers.specs.Numbers as number
 use Rattle.rows.specs.Row as row
 use Rattle.numbers.specs.Allowed.{plain}
 use Rattle.rows.specs.Layout.{leaf_at, row_at}
-use Rattle.reading.specs.declared.Answer.{Answer}
+use Rattle.reading.specs.Told.{Told}
 use Rattle.reading.specs.declared.Kind.{Kind}
 use Rattle.reading.specs.declared.Kind.TheVariants as kind
 use Rattle.reading.specs.declared.Segment.{Segment}
@@ -93,11 +93,11 @@ unfolding behind
 value-missing = refl
 
 -- what `refusal` may not answer: no extra where one was given, as by Trailing with a byte left; a segment; the counts exchanged
-pub extra_dropped : {r : Answer} → r.extra ≡ 0 → ¬ (r ≡ refusal number.Trailing 2 1 1 1 [])
-extra_dropped h e = omega (arith, h, ap (λ (a : Answer). a.extra) e)
+pub extra_dropped : {r : Told} → r.extra ≡ 0 → ¬ (r ≡ refusal number.Trailing 2 1 1 1 [])
+extra_dropped h e = omega (arith, h, ap (λ (a : Told). a.extra) e)
 
-pub some-segment : {r : Answer} {n o x c d : ℕ} → r.len ≡ 1 → ¬ (r ≡ refusal n o x c d [])
-some-segment h e = omega (arith, h, ap (λ (a : Answer). a.len) e)
+pub some-segment : {r : Told} {n o x c d : ℕ} → r.len ≡ 1 → ¬ (r ≡ refusal n o x c d [])
+some-segment h e = omega (arith, h, ap (λ (a : Told). a.len) e)
 
-pub counts_exchanged : {r : Answer} {n o x c d : ℕ} → ¬ (c ≡ d) → r.begun ≡ d → ¬ (r ≡ refusal n o x c d [])
-counts_exchanged k h e = k (omega (arith, h, ap (λ (a : Answer). a.begun) e))
+pub counts_exchanged : {r : Told} {n o x c d : ℕ} → ¬ (c ≡ d) → r.begun ≡ d → ¬ (r ≡ refusal n o x c d [])
+counts_exchanged k h e = k (omega (arith, h, ap (λ (a : Told). a.begun) e))

@@ -10,15 +10,15 @@ use borrow.Author.Tests.{lt-ltb, le-ltb, ltb-true, ltb-false, eq-eqb}
 use Rattle.numbers.specs.Caps as cap
 use Rattle.numbers.specs.Allowed.{Allowed}
 use Rattle.fields.specs.Field.{holds, field_at}
-use Rattle.fields.specs.declared.Field.TheVariants as field
+use Rattle.std.specs.Prelude.{Some, None, Ok, Err}
 use Rattle.fields.proofs.Laws.{is_whole, is-there, then_is, then_eof}
 use Rattle.numbers.specs.Numbers as number
+use Rattle.numbers.specs.Refusal.{number_of, extra_of}
+use Rattle.numbers.specs.declared.Refusal.{Refusal}
+use Rattle.numbers.specs.declared.Refusal.TheVariants as why
 use Rattle.numbers.proofs.Laws.{none_of}
-use Rattle.rows.specs.Row.{count_at}
+use Rattle.rows.specs.Row.{Row, count_at}
 use Rattle.rows.specs.Layout.{leaf_at, position_at, row_at}
-use Rattle.rows.specs.declared.Row.{Row}
-use Rattle.rows.specs.declared.Row.TheVariants.{To, No}
-use Rattle.rows.specs.declared.Counted.TheVariants as count
 use Rattle.rows.proofs.Laws.{bytes-there, bytes_gone}
 use Rattle.rows.proofs.Laws as row
 use Rattle.reading.specs.declared.Kind.TheVariants as kind
@@ -26,11 +26,11 @@ use Rattle.reading.specs.declared.Segment.{Segment}
 use Rattle.reading.specs.Reading.{State, Result, done, no, and_then, moved, reach, begin, refused, fields, pass, sized, counted}
 use Rattle.reading.specs.Terms.{elems, required, is_atom, is_natural, is_pid, small_tuple, large_tuple, list, map, pid, reference, export, captured, function, body, term}
 
-pub fields-to : (s : State) {r : Row} {e : ℕ} → r ≡ To e → fields r s ≡ done (moved e s)
+pub fields-to : (s : State) {r : Row} {e : ℕ} → r ≡ Ok e → fields r s ≡ done (moved e s)
 unfolding fields
 fields-to s h = rw h
 
-pub fields-no : (s : State) {r : Row} {n x : ℕ} → r ≡ No n x → fields r s ≡ no n x s []
+pub fields-no : (s : State) {r : Row} {x : Refusal} → r ≡ Err x → fields r s ≡ no (number_of x) (extra_of x) s []
 unfolding fields
 fields-no s h = rw h
 
@@ -43,20 +43,20 @@ unfolding pass
 pass_eof b n s h = fields-no s (sym (bytes_gone b n s.at h))
 
 module _ (k : ℕ) (b : List ℕ) (f : ℕ → State → Result) (s : State) where
-  pub sized-is : {n : ℕ} → field_at k b s.at ≡ field.Is n → sized k b f s ≡ f n (moved (s.at + k) s)
+  pub sized-is : {n : ℕ} → field_at k b s.at ≡ Some n → sized k b f s ≡ f n (moved (s.at + k) s)
   unfolding sized
   sized-is e = then_is k b s.at _ _ e
 
-  pub sized_eof : field_at k b s.at ≡ field.Eof → sized k b f s ≡ refused number.Eof s
+  pub sized_eof : field_at k b s.at ≡ None → sized k b f s ≡ refused number.Eof s
   unfolding sized
   sized_eof e = then_eof k b s.at _ _ e
 
 module _ (most : ℕ) (b : List ℕ) (f : ℕ → State → Result) (s : State) where
-  pub counted_is : {n : ℕ} → count_at most b s.at ≡ count.Is n → counted most b f s ≡ f n (moved (s.at + 4) s)
+  pub counted_is : {n : ℕ} → count_at most b s.at ≡ Ok n → counted most b f s ≡ f n (moved (s.at + 4) s)
   unfolding counted
   counted_is e = row.counted_is most b s.at _ _ e
 
-  pub counted-no : {n : ℕ} → count_at most b s.at ≡ count.No n → counted most b f s ≡ refused n s
+  pub counted-no : {r : Refusal} → count_at most b s.at ≡ Err r → counted most b f s ≡ refused (number_of r) s
   unfolding counted
   counted-no e = row.counted-no most b s.at _ _ e
 
@@ -75,19 +75,19 @@ module _ (read : State → Result) (fits : ℕ → Bool) (s : State) where
 
 -- the families: a count that is refused, and what comes first
 module _ (read : State → Result) (b : List ℕ) (s : State) where
-  pub small_eof : field_at 1 b s.at ≡ field.Eof → small_tuple read b s ≡ refused number.Eof s
+  pub small_eof : field_at 1 b s.at ≡ None → small_tuple read b s ≡ refused number.Eof s
   unfolding small_tuple
   small_eof e = sized_eof 1 b _ s e
 
-  pub large_no : {n : ℕ} → count_at cap.elements b s.at ≡ count.No n → large_tuple read b s ≡ refused n s
+  pub large_no : {r : Refusal} → count_at cap.elements b s.at ≡ Err r → large_tuple read b s ≡ refused (number_of r) s
   unfolding large_tuple
   large_no e = counted-no _ b _ s e
 
-  pub list-no : {n : ℕ} → count_at cap.elements b s.at ≡ count.No n → list read b s ≡ refused n s
+  pub list-no : {r : Refusal} → count_at cap.elements b s.at ≡ Err r → list read b s ≡ refused (number_of r) s
   unfolding list
   list-no e = counted-no _ b _ s e
 
-  pub map-no : {n : ℕ} → count_at cap.pairs b s.at ≡ count.No n → map read b s ≡ refused n s
+  pub map-no : {r : Refusal} → count_at cap.pairs b s.at ≡ Err r → map read b s ≡ refused (number_of r) s
   unfolding map
   map-no e = counted-no _ b _ s e
 
@@ -95,11 +95,11 @@ module _ (read : State → Result) (b : List ℕ) (s : State) where
   unfolding pid
   pid-is = refl
 
-  pub reference_eof : field_at 2 b s.at ≡ field.Eof → reference read b s ≡ refused number.Eof s
+  pub reference_eof : field_at 2 b s.at ≡ None → reference read b s ≡ refused number.Eof s
   unfolding reference
   reference_eof e = sized_eof 2 b _ s e
 
-  pub reference-is : {n : ℕ} → field_at 2 b s.at ≡ field.Is n → reference read b s ≡ and_then (required read (is_atom b) (moved (s.at + 2) s)) (pass b (4 + 4 * n))
+  pub reference-is : {n : ℕ} → field_at 2 b s.at ≡ Some n → reference read b s ≡ and_then (required read (is_atom b) (moved (s.at + 2) s)) (pass b (4 + 4 * n))
   unfolding reference
   reference-is e = sized-is 2 b _ s e
 
@@ -115,14 +115,14 @@ module _ (read : State → Result) (b : List ℕ) (s : State) where
   captured-is n = refl
 
   -- the fixed fields of a function are there where its last, the free count, is
-  pub function-is : {n : ℕ} → field_at 4 b (s.at + 25) ≡ field.Is n → function read b s ≡ captured read b n (moved (s.at + 29) s)
+  pub function-is : {n : ℕ} → field_at 4 b (s.at + 25) ≡ Some n → function read b s ≡ captured read b n (moved (s.at + 29) s)
   unfolding function and_then
   function-is {n} e =
       let w = is_whole 4 b (s.at + 25) e in
       let q : s.at + 25 + 4 ≡ s.at + 29 = omega arith in
       rw (pass_on b 25 s (is-there 25 b s.at (omega arith))) (sized-is 4 b _ (moved (s.at + 25) s) e ∙ rw q)
 
-  pub function_eof : field_at 4 b (s.at + 25) ≡ field.Eof → (p : ℕ) × (function read b s ≡ refused number.Eof (moved p s))
+  pub function_eof : field_at 4 b (s.at + 25) ≡ None → (p : ℕ) × (function read b s ≡ refused number.Eof (moved p s))
   unfolding function and_then
   function_eof e = go (holds 25 b s.at) refl
     where
@@ -216,15 +216,13 @@ module _ (allow : Allowed) (read : State → Result) (b : List ℕ) (tag : ℕ) 
   body-row h r = body-rest r.0 ∙ ap (λ (q : Row). fields q s) (row.other-leaf allow b tag s.at h r.1)
 
   -- a row that ends is one of these
-  pub body-to : {e : ℕ} → leaf_at allow b tag s.at ≡ To e → body allow read b tag s ≡ done (moved e s)
+  pub body-to : {e : ℕ} → leaf_at allow b tag s.at ≡ Ok e → body allow read b tag s ≡ done (moved e s)
   unfolding leaf_at row_at
   body-to {e} h =
       body-rest (((((((((tt, not 104 refl), not 105 refl), not 108 refl), not 116 refl), not 88 refl), not 120 refl), not 90 refl), not 113 refl), not 112 refl) ∙ fields-to s h
     where
-      not : (n : ℕ) → leaf_at allow b n s.at ≡ No number.Tag 0 → ¬ (tag ≡ n)
-      not n q i =
-          let f : No number.Tag 0 ≡ To e = sym q ∙ ap (λ (t : ℕ). leaf_at allow b t s.at) (sym i) ∙ h in
-          absurd (let z : ◌≡◌ {A = ℕ} 0 1 = cc in omega arith)
+      not : (n : ℕ) → leaf_at allow b n s.at ≡ Err why.Tag → ¬ (tag ≡ n)
+      not n q i = let f : Err why.Tag ≡ Ok e = sym q ∙ ap (λ (t : ℕ). leaf_at allow b t s.at) (sym i) ∙ h in cc
 
 -- a term
 pub term_eof : (allow : Allowed) (b : List ℕ) (limit rem : ℕ) (s u : State) → length b ≤ s.at → u ≡ reach s → term allow b limit rem s ≡ refused number.Eof u
@@ -245,7 +243,7 @@ term-body allow b limit (suc r) s u h k e =
     rw (e, d, lt-ltb s.at (length b) h)
 
 -- a term without children whose row ends
-pub term-row : (allow : Allowed) (b : List ℕ) (limit rem : ℕ) (s : State) {e : ℕ} → s.at < length b → ¬ (rem ≡ 0) → leaf_at allow b (get_or b s.at 0) (s.at + 1) ≡ To e →
+pub term-row : (allow : Allowed) (b : List ℕ) (limit rem : ℕ) (s : State) {e : ℕ} → s.at < length b → ¬ (rem ≡ 0) → leaf_at allow b (get_or b s.at 0) (s.at + 1) ≡ Ok e →
     term allow b limit rem s ≡ done (moved e (begin (limit - (rem - 1)) s))
 term-row allow b limit rem s h k r = term-body allow b limit rem s _ h k refl ∙ body-to _ _ _ _ _ r
 
@@ -257,5 +255,4 @@ inside allow b limit rem s u e = by_test (ltb s.at (length b)) refl
     by_test true q = ltb-true s.at (length b) (sym q)
     by_test false q =
         let p : refused number.Eof (reach s) ≡ done u = sym (term_eof allow b limit rem s (reach s) (ltb-false s.at (length b) (sym q)) refl) ∙ e in
-        let z : ◌≡◌ {A = ℕ} 0 1 = cc in
-        absurd (omega arith)
+        absurd cc

@@ -11,15 +11,15 @@ use lib.ListN.{length, get_or}
 use Rattle.numbers.specs.Caps as cap
 use Rattle.numbers.specs.Allowed.{Allowed}
 use Rattle.fields.specs.Field.{field_at}
-use Rattle.fields.specs.declared.Field.{Field}
-use Rattle.fields.specs.declared.Field.TheVariants as field
+use Rattle.std.specs.Prelude.{Option, Some, None, Ok, Err}
 use Rattle.fields.proofs.Laws.{is_whole}
 use Rattle.numbers.specs.Numbers as number
 use Rattle.numbers.specs.Numbers.{among, Listed}
+use Rattle.numbers.specs.Refusal.{number_of}
+use Rattle.numbers.proofs.Laws.{refusal_listed}
 use Rattle.rows.specs.Row as row
 use Rattle.rows.specs.Layout.{leaf_at}
-use Rattle.rows.specs.declared.Row.{Row}
-use Rattle.rows.specs.declared.Row.TheVariants.{To, No}
+use Rattle.rows.specs.Row.{Row}
 use Rattle.reading.specs.declared.Kind.{Kind}
 use Rattle.reading.specs.declared.Kind.TheVariants as kind
 use Rattle.reading.specs.declared.Segment.{Segment}
@@ -133,16 +133,16 @@ module _ (allow : Allowed) {b : List ℕ} {limit : ℕ} {P : State → Type 0} {
 
   held-fields : (l : ℕ) (s : State) (r : Row) → Near b b s.at r r → P s → Held P Q l (fields r s)
   unfolding fields
-  held-fields l s (To e) n p = k.moves s e p n.0 (n.1 (k.inside s p))
-  held-fields l s (No m x) n p = k.stops l m s n p
+  held-fields l s (Ok e) n p = k.moves s e p n.0 (n.1 (k.inside s p))
+  held-fields l s (Err r) n p = k.stops l (number_of r) s (refusal_listed r) p
 
   held_counts : (l j : ℕ) (s : State) (f g : ℕ → State → Result) → ((n : ℕ) (t : State) → From l t (f n t) (g n t)) → From l s (sized j b f s) (sized j b g s)
   unfolding among
   held_counts l j s f g h p = go (field_at j b s.at) refl
     where
-      go : (x : Field) → field_at j b s.at ≡ x → Held P Q l (sized j b f s)
-      go (field.Is n) e = rw (sized-is j b f s e) (h n (moved (s.at + j) s) (k.moves s (s.at + j) p (omega arith) (is_whole j b s.at e).0))
-      go field.Eof e = rw (sized_eof j b f s e) (k.stops l number.Eof s refl p)
+      go : (x : Option ℕ) → field_at j b s.at ≡ x → Held P Q l (sized j b f s)
+      go (Some n) e = rw (sized-is j b f s e) (h n (moved (s.at + j) s) (k.moves s (s.at + j) p (omega arith) (is_whole j b s.at e).0))
+      go None e = rw (sized_eof j b f s e) (k.stops l number.Eof s refl p)
 
   held_caps : (l most : ℕ) (s : State) (f g : ℕ → State → Result) → ((n : ℕ) (t : State) → From l t (f n t) (g n t)) → From l s (counted most b f s) (counted most b g s)
   unfolding among

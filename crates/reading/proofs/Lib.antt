@@ -7,4 +7,5 @@ pub mod Outcomes
 pub mod Local
 pub mod Limits
 pub mod Examples
-pub mod Asked
+pub mod Asks
+pub mod Told

@@ -10,16 +10,14 @@ use lib.ListN.{length, get_or}
 use Rattle.numbers.specs.Caps as cap
 use Rattle.numbers.specs.Allowed.{Allowed}
 use Rattle.fields.specs.Field.{field_at}
-use Rattle.fields.specs.declared.Field.{Field}
-use Rattle.fields.specs.declared.Field.TheVariants as field
+use Rattle.std.specs.Prelude.{Option, Some, None, Ok, Err}
+use Rattle.std.specs.Prelude as std
+use Rattle.numbers.specs.declared.Refusal.{Refusal}
+use Rattle.numbers.specs.declared.Refusal.TheVariants as why
 use Rattle.numbers.specs.Numbers as number
 use Rattle.rows.specs.Row.{count_at}
-use Rattle.rows.specs.declared.Counted.{Counted}
-use Rattle.rows.specs.declared.Counted.TheVariants as count
-use Rattle.reading.specs.declared.Answer.{Answer}
-use Rattle.reading.specs.declared.Cause.TheVariants as cause
+use Rattle.reading.specs.Told.{Told}
 use Rattle.reading.specs.declared.Kind.{Kind}
-use Rattle.reading.specs.declared.Start.TheVariants as start
 use Rattle.reading.specs.Reading.{State, Result, done, no, and_then, entered, moved, reach, begin, refused, sized, counted}
 use Rattle.reading.specs.Terms.{required, body, term}
 use Rattle.reading.specs.Answer.{answer, starts, started, read_by}
@@ -50,16 +48,16 @@ module _ (allow : Allowed) (b : List ℕ) where
   counts : (k : ℕ) (s : State) (f g : ℕ → State → Result) → ((n : ℕ) (t : State) → Same t (f n t) (g n t)) → Same s (sized k b f s) (sized k b g s)
   counts k s f g h = go (field_at k b s.at) refl
     where
-      go : (x : Field) → field_at k b s.at ≡ x → Same s (sized k b f s) (sized k b g s)
-      go (field.Is n) e = rw (sized-is k b f s e, sized-is k b g s e) (h n (moved (s.at + k) s))
-      go field.Eof e = rw (sized_eof k b f s e, sized_eof k b g s e) (λ z. refl)
+      go : (x : Option ℕ) → field_at k b s.at ≡ x → Same s (sized k b f s) (sized k b g s)
+      go (Some n) e = rw (sized-is k b f s e, sized-is k b g s e) (h n (moved (s.at + k) s))
+      go None e = rw (sized_eof k b f s e, sized_eof k b g s e) (λ z. refl)
 
   caps : (most : ℕ) (s : State) (f g : ℕ → State → Result) → ((n : ℕ) (t : State) → Same t (f n t) (g n t)) → Same s (counted most b f s) (counted most b g s)
   caps most s f g h = go (count_at most b s.at) refl
     where
-      go : (x : Counted) → count_at most b s.at ≡ x → Same s (counted most b f s) (counted most b g s)
-      go (count.Is n) e = rw (counted_is most b f s e, counted_is most b g s e) (h n (moved (s.at + 4) s))
-      go (count.No n) e = rw (counted-no most b f s e, counted-no most b g s e) (λ z. refl)
+      go : (x : std.Result ℕ Refusal) → count_at most b s.at ≡ x → Same s (counted most b f s) (counted most b g s)
+      go (Ok n) e = rw (counted_is most b f s e, counted_is most b g s e) (h n (moved (s.at + 4) s))
+      go (Err n) e = rw (counted-no most b f s e, counted-no most b g s e) (λ z. refl)
 
   alike : Alike allow b b Same Same
   unfolding required
@@ -113,8 +111,8 @@ module _ (allow : Allowed) (b : List ℕ) where
       shallow (no n x t p) z = z
 
       -- the answer, where the input may be too long
-      told : Bool → Result → Answer
-      told x o = started (cond x (start.No cause.Long) start.Reads) (answer o)
+      told : Bool → Result → Told
+      told x o = started (cond x (Err why.Long) (Ok tt)) (answer o)
 
       go : (x : Bool) → ¬ ((told x (term allow b limit limit begins)).number ≡ number.Deep) → told x (term allow b limit' limit' begins) ≡ told x (term allow b limit limit begins)
       go true z = refl

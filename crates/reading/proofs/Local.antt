@@ -10,19 +10,19 @@ use lib.Dec.{ltb, leb, eqb}
 use lib.ListN.{length, get_or, take}
 use Rattle.fields.specs.Be.{be_at}
 use Rattle.fields.specs.Field.{field_at, number_at}
-use Rattle.fields.specs.declared.Field.{Field}
-use Rattle.fields.specs.declared.Field.TheVariants as field
-use Rattle.fields.proofs.Laws.{is-there, field_is, is_whole, number_of}
+use Rattle.std.specs.Prelude.{Option, Some, None, Ok, Err}
+use Rattle.std.specs.Prelude as std
+use Rattle.numbers.specs.declared.Refusal.{Refusal}
+use Rattle.fields.proofs.Laws.{is-there, field_is, is_whole}
+use Rattle.fields.proofs.Laws as field
 use Rattle.numbers.specs.Numbers as number
+use Rattle.numbers.specs.Refusal.{number_of, extra_of}
 use Rattle.numbers.specs.Allowed.{Allowed}
 use Rattle.rows.specs.Row.{count_at}
 use Rattle.rows.specs.Row as row
-use Rattle.rows.specs.declared.Counted.{Counted}
-use Rattle.rows.specs.declared.Counted.TheVariants as count
 use Rattle.rows.proofs.Laws.{count_in, count-is}
 use Rattle.rows.specs.Layout.{leaf_at, row_at}
-use Rattle.rows.specs.declared.Row.{Row}
-use Rattle.rows.specs.declared.Row.TheVariants.{To, No}
+use Rattle.rows.specs.Row.{Row}
 use Rattle.reading.specs.declared.Kind.{Kind}
 use Rattle.reading.specs.Reading.{State, Result, done, no, and_then, entered, moved, reach, begin, refused, fields, pass, sized, counted}
 use Rattle.reading.specs.Terms.{required, is_atom, is_natural, is_pid, body, term}
@@ -75,28 +75,28 @@ module _ (allow : Allowed) (b c : List ℕ) where
 
   reads : (s : State) (r q : Row) → Near b c s.at r q → From s (fields r s) (fields q s)
   unfolding fields
-  reads s (To e) q h l = (h.0, h.1 l, λ a. ap (λ (r : Row). fields r s) (h.2 a))
-  reads s (No n x) q h l = tt
+  reads s (Ok e) q h l = (h.0, h.1 l, λ a. ap (λ (r : Row). fields r s) (h.2 a))
+  reads s (Err r) q h l = tt
 
   counts : (k : ℕ) (s : State) (f g : ℕ → State → Result) → ((n : ℕ) (t : State) → From t (f n t) (g n t)) → From s (sized k b f s) (sized k c g s)
   counts k s f g h l = go (field_at k b s.at) refl
     where
-      go : (x : Field) → field_at k b s.at ≡ x → Beside s (sized k b f s) (sized k c g s)
-      go (field.Is n) e =
+      go : (x : Option ℕ) → field_at k b s.at ≡ x → Beside s (sized k b f s) (sized k c g s)
+      go (Some n) e =
           let t = moved (s.at + k) s in
           rw (sized-is k b f s e) (later s t (f n t) (g n t) (sized k c g s) (omega arith) (λ a. sized-is k c g s (agree_field k s.at a e)) (h n t (is_whole k b s.at e).0))
-      go field.Eof e = rw (sized_eof k b f s e) tt
+      go None e = rw (sized_eof k b f s e) tt
 
   caps : (most : ℕ) (s : State) (f g : ℕ → State → Result) → ((n : ℕ) (t : State) → From t (f n t) (g n t)) → From s (counted most b f s) (counted most c g s)
   caps most s f g h l = go (count_at most b s.at) refl
     where
-      go : (x : Counted) → count_at most b s.at ≡ x → Beside s (counted most b f s) (counted most c g s)
-      go (count.Is n) e =
+      go : (x : std.Result ℕ Refusal) → count_at most b s.at ≡ x → Beside s (counted most b f s) (counted most c g s)
+      go (Ok n) e =
           let t = moved (s.at + 4) s in
           let (i, k) = count-is most b s.at e in
           rw (counted_is most b f s e) (later s t (f n t) (g n t) (counted most c g s) (omega arith)
           (λ a. counted_is most c g s (count_in most c s.at (agree_field 4 s.at a i) k)) (h n t (is_whole 4 b s.at i).0))
-      go (count.No n) e = rw (counted-no most b f s e) tt
+      go (Err n) e = rw (counted-no most b f s e) tt
 
   alike : Alike allow b c Child From
   unfolding pass required
@@ -115,8 +115,8 @@ module _ (allow : Allowed) (b c : List ℕ) where
 
   same_number : (k p e : ℕ) → p + k ≤ e → e ≤ length b → Agree b c e → number_at k b p ≡ number_at k c p
   same_number k p e h l a =
-      let i : field_at k b p ≡ field.Is (be_at k b p) = sym (field_is k b p (is-there k b p (le_trans h l)) refl) in
-      number_of k b p i ∙ sym (number_of k c p (agree_field k p (agree_less a h) i))
+      let i : field_at k b p ≡ Some (be_at k b p) = sym (field_is k b p (is-there k b p (le_trans h l)) refl) in
+      field.number_of k b p i ∙ sym (field.number_of k c p (agree_field k p (agree_less a h) i))
 
   module _ (p e : ℕ) (h : p < e) (l : e ≤ length b) (a : Agree b c e) (m : get_or b p 0 ≡ 97 → p + 1 + 1 ≤ e) (n : get_or b p 0 ≡ 98 → p + 1 + 4 ≤ e) where
     same_natural : (most : ℕ) → is_natural most b p ≡ is_natural most c p
@@ -148,12 +148,12 @@ module _ (allow : Allowed) (b c : List ℕ) where
       place (no n x u p) = 0
 
       go : (x : Bool) → ltb s.at (length b) ≡ x → (r : Row) → row.bytes b k (s.at + 1) ≡ r → s.at + 1 + k ≤ t.at
-      go true f (To q) g =
+      go true f (Ok q) g =
           let i : done (moved q (begin (limit - left) s)) ≡ done t = rw (f, e, h (term allow b limit left) (begin (limit - left) s), g) at d in
           omega (arith, ap place i, bytes-to b k (s.at + 1) g)
-      go true f (No m x) g =
-          let i : no m x (begin (limit - left) s) [] ≡ done t = rw (f, e, h (term allow b limit left) (begin (limit - left) s), g) at d in
-          absurd (let z : ◌≡◌ {A = ℕ} 0 1 = cc in omega arith)
+      go true f (Err r) g =
+          let i : no (number_of r) (extra_of r) (begin (limit - left) s) [] ≡ done t = rw (f, e, h (term allow b limit left) (begin (limit - left) s), g) at d in
+          absurd cc
       go false f r g = absurd (omega (arith, started allow b limit (suc left) s t d, ltb-false s.at (length b) f))
 
   judged : (limit left : ℕ) (s : State) → Judged s (term allow b limit (suc left) s)

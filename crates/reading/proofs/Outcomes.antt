@@ -10,26 +10,12 @@ use borrow.Author.Tests.{ltb-true, ltb-false}
 use Rattle.numbers.specs.Allowed.{Allowed}
 use Rattle.numbers.specs.Numbers.{among, Listed}
 use Rattle.numbers.proofs.Laws.{outcome, Shown, listed_shown}
-use Rattle.reading.specs.declared.Cause.{Cause}
-use Rattle.reading.specs.declared.Cause.TheVariants as cause
 use Rattle.reading.specs.Reading.{State, Result, done, no}
 use Rattle.reading.specs.Terms.{term}
-use Rattle.reading.specs.Answer.{number_of, answer, read_by}
+use Rattle.reading.specs.Answer.{answer, read_by}
 use Rattle.reading.proofs.Answers.{by-start}
 use Rattle.reading.proofs.Keeps.{Keeps, Held, keeps}
 use Rattle.reading.proofs.Bounds.{at-end}
-
--- the causes that need no path
-pub cause_listed : (c : Cause) → Listed (number_of c)
-unfolding among
-cause_listed cause.Eof = refl
-cause_listed cause.Tag = refl
-cause_listed cause.Trailing = refl
-cause_listed cause.Room = refl
-cause_listed cause.Long = refl
-cause_listed cause.Kind = refl
-cause_listed cause.Limit = refl
-cause_listed cause.Absent = refl
 
 module _ (allow : Allowed) (b : List ℕ) (limit : ℕ) where
   listed : Keeps b limit (λ s. s.at ≤ length b) (λ l n p s. Listed n)

@@ -1,11 +1,10 @@
 -- How reading goes: where it stands, that it goes on or is refused, and the path that a refusal has. Document 01, "Reading, offset and path".
-use Rattle.std.specs.Prelude.{ℕ, ◌+◌, max, List, [], ◌∷◌}
+use Rattle.std.specs.Prelude.{ℕ, ◌+◌, max, List, [], ◌∷◌, Ok, Err}
 use Rattle.numbers.specs.Numbers as number
+use Rattle.numbers.specs.Refusal.{number_of, extra_of}
 use Rattle.fields.specs.Field.{number_then}
-use Rattle.rows.specs.Row.{count_then}
+use Rattle.rows.specs.Row.{Row, count_then}
 use Rattle.rows.specs.Row as row
-use Rattle.rows.specs.declared.Row.{Row}
-use Rattle.rows.specs.declared.Row.TheVariants.{To, No}
 use Rattle.reading.specs.declared.Kind.{Kind}
 use Rattle.reading.specs.declared.Segment.{Segment}
 
@@ -49,8 +48,8 @@ refused n s = no n 0 s []
 
 -- fields without children, as their row says
 unfoldable pub fields : Row → State → Result
-fields (To p) s = done (moved p s)
-fields (No n x) s = no n x s []
+fields (Ok p) s = done (moved p s)
+fields (Err r) s = no (number_of r) (extra_of r) s []
 
 -- n bytes
 unfoldable pub pass : List ℕ → ℕ → State → Result
@@ -62,4 +61,4 @@ sized k b f s = number_then (refused number.Eof s) k b (λ n p. f n (moved p s))
 
 -- the same of a count of 4 bytes within its cap
 unfoldable pub counted : ℕ → List ℕ → (ℕ → State → Result) → State → Result
-counted most b f s = count_then (λ n. refused n s) most b (λ n p. f n (moved p s)) s.at
+counted most b f s = count_then (λ r. refused (number_of r) s) most b (λ n p. f n (moved p s)) s.at

@@ -7,20 +7,32 @@
 
 #![tactic(auto)]
 
-ghost use Rattle.std.specs.Prelude.{◌≡◌, [], ◌<◌};
+ghost use Rattle.std.specs.Prelude.{◌≡◌, [], take};
+ghost use Rattle.numbers.specs.Refusal.{number_of, extra_of};
 ghost use Rattle.reading.specs.Terms as terms;
 ghost use Rattle.reading.specs.Answer as def;
-ghost use Rattle.reading.specs.Asked.{plainly};
+ghost use Rattle.reading.specs.Told.{told_of, padded};
+
+use numbers::Refusal;
 
 // What a segment of a path is of.
 #[derive(Clone, Copy)]
 pub enum Kind {
-    Tuple,
-    List,
-    Tail,
-    Key,
-    Value,
-    Free,
+    Tuple = 0,
+    List = 1,
+    Tail = 2,
+    Key = 3,
+    Value = 4,
+    Free = 5,
+}
+
+// The number of a segment's kind.
+impl From<Kind> for u64 {
+    ghost from_gives = { λ kind n. n ≡ def.kind_number kind };
+
+    fn from(kind: Kind) -> u64 {
+        kind as u64
+    }
 }
 
 // "A segment holds its kind and one number: the index, the key's offset for a map value, else 0."
@@ -30,79 +42,73 @@ pub struct Segment {
     pub number: u64,
 }
 
-// What reading answers: the number (0 is Done), the end where it is Done, the refusal's offset and extra, the terms begun, the deepest
-// nesting begun, and the path.
+// What reading answers: where the term ends, or why it is refused, and the terms begun and the deepest nesting begun.
 #[derive(Clone, Copy)]
 pub struct Answer {
-    pub number: u64,
-    pub end: usize,
-    pub offset: usize,
-    pub extra: u64,
+    pub outcome: Result<Done, Refused>,
     pub begun: usize,
     pub deepest: usize,
-    pub len: usize,
-    pub path: [Segment; numbers::NESTING],
 }
 
-// The number of a segment's kind.
-pub fn kind_number(kind: Kind) -> u64
-    ensures { (result ≡ def.kind_number kind) × (result < 6) }
-{
-    match kind {
-        Kind::Tuple => 0,
-        Kind::List => 1,
-        Kind::Tail => 2,
-        Kind::Key => 3,
-        Kind::Value => 4,
-        Kind::Free => 5,
-    }
-}
-
-// Why an answer is refused that has no path: before reading, or behind a term that was read.
+// Where the term ends; of a lookup also where the value begins, else 0.
 #[derive(Clone, Copy)]
-pub enum Cause {
-    Eof,
-    Tag,
-    Trailing,
-    Room,
-    Long,
-    Kind,
-    Limit,
-    Absent,
+pub struct Done {
+    pub end: usize,
+    pub value: usize,
 }
 
-// A refusal with an empty path. One before reading has no offset, extra or counts.
-pub fn refusal(cause: Cause, offset: usize, extra: u64, begun: usize, deepest: usize) -> Answer
-    ensures { result ≡ def.refusal (def.number_of cause) offset extra begun deepest [] }
-{
-    let path = [Segment {
-        kind: Kind::Tuple,
-        number: 0,
-    }; numbers::NESTING];
-    Answer {
-        number: number(cause),
-        end: 0,
-        offset: offset,
-        extra: extra,
-        begun: begun,
-        deepest: deepest,
-        len: 0,
-        path: path,
+// Why and where it is refused, and the path that leads there.
+#[derive(Clone, Copy)]
+pub struct Refused {
+    pub why: Refusal,
+    pub offset: usize,
+    pub path: Path,
+}
+
+// The segments of a refusal's path, outermost first; those behind them are blank.
+#[derive(Clone, Copy)]
+pub struct Path {
+    pub len: usize,
+    pub segments: [Segment; numbers::NESTING],
+}
+
+impl Path {
+    // A path with no segment.
+    pub fn empty() -> Path
+        ensures { result ≡ record { len = 0; segments = padded [] } }
+    {
+        let blank = Segment {
+            kind: Kind::Tuple,
+            number: 0,
+        };
+        Path {
+            len: 0,
+            segments: [blank; numbers::NESTING],
+        }
+    }
+
+    // The segments alone.
+    pub fn as_slice(&self) -> &[Segment]
+        ensures { result.now ≡ take self.now.len self.now.segments }
+    {
+        &self.segments[..self.len.min(numbers::NESTING)]
     }
 }
 
-fn number(cause: Cause) -> u64
-    ensures { result ≡ def.number_of cause }
-{
-    match cause {
-        Cause::Eof => numbers::EOF,
-        Cause::Tag => numbers::TAG,
-        Cause::Trailing => numbers::TRAILING,
-        Cause::Room => numbers::ROOM,
-        Cause::Long => numbers::LONG,
-        Cause::Kind => numbers::KIND,
-        Cause::Limit => numbers::LIMIT,
-        Cause::Absent => numbers::ABSENT,
+impl Answer {
+    // A refusal with an empty path: before reading, or behind a term that was read. One before reading has no offset or counts.
+    pub fn refused(why: Refusal, offset: usize, begun: usize, deepest: usize) -> Answer
+        ensures { told_of result ≡ def.refusal (number_of why) offset (extra_of why) begun deepest [] }
+    {
+        Answer {
+            outcome: Err(Refused {
+                why,
+                offset,
+                path: Path::empty(),
+            }),
+            begun,
+            deepest,
+        }
     }
 }
 
@@ -110,64 +116,52 @@ fn number(cause: Cause) -> u64
 pub fn is_atom(b: &[u8], at: usize) -> bool
     ensures { result ≡ terms.is_atom b.now at }
 {
-    if b.len() <= at {
-        return false;
-    }
-    let tag = b[at];
-    match tag {
-        100 => true,
-        118 => true,
-        119 => true,
-        82 => true,
-        _ => false,
-    }
+    matches!(fields::u8_at(b, at), 100 | 118 | 119 | 82)
 }
 
 pub fn is_natural(b: &[u8], most: u64, at: usize) -> bool
     ensures { result ≡ terms.is_natural most b.now at }
 {
-    if b.len() <= at {
-        return false;
+    match fields::u8_at(b, at) {
+        97 => u64::from(fields::u8_at(b, at + 1)) <= most,
+        98 => u64::from(fields::u32_at(b, at + 1)) <= most,
+        _ => false,
     }
-    let tag = b[at];
-    if tag == 97 {
-        return fields::u8_at(b, at + 1) <= most;
-    }
-    if tag == 98 {
-        return fields::u32_at(b, at + 1) <= most;
-    }
-    false
 }
 
 // Whether reading may begin: the limit is 1 to 64 and the input no longer than 16,777,216 bytes.
-#[derive(Clone, Copy)]
-pub enum Start {
-    Reads,
-    No(Cause),
-}
-
-pub fn starts(limit: usize, len: usize) -> Start
+pub fn starts(limit: usize, len: usize) -> Result<(), Refusal>
     ensures { result ≡ def.starts limit len }
 {
-    if limit == 0 {
-        return Start::No(Cause::Limit);
-    }
-    if numbers::NESTING < limit {
-        return Start::No(Cause::Limit);
+    if limit == 0 || numbers::NESTING < limit {
+        return Err(Refusal::Limit);
     }
     if numbers::INPUT < len {
-        return Start::No(Cause::Long);
+        return Err(Refusal::Long);
     }
-    Start::Reads
+    Ok(())
 }
 
-// What is asked of a reader, in six words (specs/Asked.antt): the places of two of them, and plain reading, so deep.
-pub const NAMES: usize = 4;
+// What is asked of a reader: the bytes that are known behind tag 82, by the bits of four words, whether 82 is a tag, and the nesting limit.
+// Tag 99 is read by all.
+#[derive(Clone, Copy)]
+pub struct Asked {
+    pub known: [usize; 4],
+    pub names: bool,
+    pub limit: usize,
+}
 
-pub const LIMIT: usize = 5;
+impl Asked {
+    ghost use Rattle.reading.specs.Asked.{plainly};
 
-pub fn plainly(limit: usize) -> [usize; 6]
-    ensures { result ≡ plainly limit }
-{
-    [0, 0, 0, 0, 0, limit]
+    // Plain reading, so deep.
+    pub fn plainly(limit: usize) -> Asked
+        ensures { result ≡ plainly limit }
+    {
+        Asked {
+            known: [0; 4],
+            names: false,
+            limit,
+        }
+    }
 }

@@ -8,18 +8,20 @@ use Rattle.fields.specs.Be.{be, be_at}
 use Rattle.fields.specs.Field.{holds, field_at, number_then, byte_then}
 use Rattle.utf8.specs.Unicode.{scalar, encode}
 use Rattle.utf8.specs.Inner.Find.{decode, starts, char_bytes, good_from, good_bytes}
-use Rattle.numbers.specs.Numbers as number
+use Rattle.std.specs.Prelude.{Ok, Err}
+use Rattle.numbers.specs.declared.Refusal.{Refusal}
+use Rattle.numbers.specs.declared.Refusal.TheVariants as refusal
 use Rattle.rows.specs.Row as row
 use Rattle.references.specs.declared.Reference.{Reference}
 use Rattle.references.specs.declared.Reference.TheVariants as ref
-use Rattle.references.specs.Header.{Said, refused, half_of, half_byte, new_in, is_new, segment, one_segment, long_bit, flagged, start_of, named, new_at, reference_at, behind, references, opened, header_of, slots_of}
+use Rattle.references.specs.Header.{Said, half_of, half_byte, new_in, is_new, segment, one_segment, long_bit, flagged, start_of, named, new_at, reference_at, behind, references, opened, header_of, slots_of}
 
 -- what a header says, where all is well, and where it is refused behind some references
 abbrev done : List Reference → ℕ → Said
-done rs rest = record { references = rs; rest = rest }
+done rs rest = record { references = rs; rest = Ok rest }
 
-abbrev later : List Reference → ℕ → Said
-later rs n = record { references = rs ++ (ref.No n 0 ∷ []); rest = 0 }
+abbrev later : List Reference → Refusal → Said
+later rs r = record { references = rs; rest = Err r }
 
 -- reg, call and set_get_state, the new names of the chapter's worked example, and it
 abbrev pub reg : List ℕ
@@ -44,7 +46,7 @@ pub record Examples : Type 0 where
   -- every new name is told, not the first alone
   pub both : header_of (131 ∷ 68 ∷ 2 ∷ 136 ∷ 0 ∷ 5 ∷ 1 ∷ 97 ∷ 6 ∷ 1 ∷ 98 ∷ []) ≡ done (ref.New 5 7 1 ∷ ref.New 6 10 1 ∷ []) 11
   -- a later fault keeps the names before it
-  pub kept : header_of (131 ∷ 68 ∷ 2 ∷ 136 ∷ 0 ∷ 5 ∷ 1 ∷ 97 ∷ 6 ∷ 1 ∷ []) ≡ later (ref.New 5 7 1 ∷ []) number.Eof
+  pub kept : header_of (131 ∷ 68 ∷ 2 ∷ 136 ∷ 0 ∷ 5 ∷ 1 ∷ 97 ∷ 6 ∷ 1 ∷ []) ≡ later (ref.New 5 7 1 ∷ []) refusal.Eof
   -- the low half byte is the first reference's: the first is new and the second old, or the other way round
   pub low : header_of (131 ∷ 68 ∷ 2 ∷ 8 ∷ 0 ∷ 5 ∷ 1 ∷ 97 ∷ 6 ∷ []) ≡ done (ref.New 5 7 1 ∷ ref.Old 6 ∷ []) 9
   pub high : header_of (131 ∷ 68 ∷ 2 ∷ 128 ∷ 0 ∷ 6 ∷ 5 ∷ 1 ∷ 97 ∷ []) ≡ done (ref.Old 6 ∷ ref.New 5 8 1 ∷ []) 9
@@ -67,19 +69,19 @@ pub record Examples : Type 0 where
   pub slots : slots_of (header_of (131 ∷ 68 ∷ 2 ∷ 128 ∷ 0 ∷ 6 ∷ 5 ∷ 1 ∷ 97 ∷ [])).references ≡ 6 ∷ 5 ∷ []
   pub some-slots : slots_of (header_of (131 ∷ 68 ∷ 2 ∷ 128 ∷ 0 ∷ 6 ∷ 5 ∷ 1 ∷ [])).references ≡ 6 ∷ []
   -- a name is judged before it is stored; missing bytes come first, then text
-  pub text : header_of (131 ∷ 68 ∷ 1 ∷ 8 ∷ 5 ∷ 1 ∷ 255 ∷ []) ≡ later [] number.Text
-  pub missing : header_of (131 ∷ 68 ∷ 1 ∷ 8 ∷ 5 ∷ 2 ∷ 255 ∷ []) ≡ later [] number.Eof
-  pub text-first : header_of (131 ∷ 68 ∷ 1 ∷ 24 ∷ 5 ∷ 1 ∷ 0 ∷ replicate 255 97 ++ (255 ∷ [])) ≡ later [] number.Text
+  pub text : header_of (131 ∷ 68 ∷ 1 ∷ 8 ∷ 5 ∷ 1 ∷ 255 ∷ []) ≡ later [] refusal.Text
+  pub missing : header_of (131 ∷ 68 ∷ 1 ∷ 8 ∷ 5 ∷ 2 ∷ 255 ∷ []) ≡ later [] refusal.Eof
+  pub text-first : header_of (131 ∷ 68 ∷ 1 ∷ 24 ∷ 5 ∷ 1 ∷ 0 ∷ replicate 255 97 ++ (255 ∷ [])) ≡ later [] refusal.Text
   -- a name of any length is one, of 256 bytes too: what a cache takes is not said here
   pub larger : header_of (131 ∷ 68 ∷ 1 ∷ 24 ∷ 5 ∷ 1 ∷ 0 ∷ replicate 256 97) ≡ done (ref.New 5 7 256 ∷ []) 263
   -- no references, no flags
   pub none : header_of (131 ∷ 68 ∷ 0 ∷ []) ≡ done [] 3
   -- a wrong first byte and a wrong second one
-  pub tag : header_of (130 ∷ []) ≡ refused number.Tag 0
-  pub kind : header_of (131 ∷ 69 ∷ []) ≡ refused number.Kind 69
+  pub tag : header_of (130 ∷ []) ≡ later [] refusal.Tag
+  pub kind : header_of (131 ∷ 69 ∷ []) ≡ later [] (refusal.Kind 69)
 
 pub examples : Examples
-unfolding header_of opened start_of flagged references behind reference_at new_at named long_bit is_new new_in segment one_segment half_byte half_of slots_of byte_then number_then row.name row.bytes holds field_at be_at be good_bytes good_from char_bytes decode scalar encode starts
+unfolding header_of opened start_of flagged references behind reference_at new_at named long_bit is_new new_in segment one_segment half_byte half_of byte_then number_then row.name row.bytes holds field_at be_at be good_bytes good_from char_bytes decode scalar encode starts
 examples = record {
   one = refl;
   odd = refl;

@@ -9,16 +9,16 @@ use borrow.Author.Tests.{eqb-true, eqb-false}
 use lib.Dec.{eqb, ltb}
 use lib.ListN.{length, get_or}
 use Rattle.numbers.specs.Caps as cap
-use Rattle.numbers.specs.Numbers as number
+use Rattle.std.specs.Prelude.{Option, Some, None, Result, Ok, Err}
+use Rattle.numbers.specs.declared.Refusal.{Refusal}
+use Rattle.numbers.specs.declared.Refusal.TheVariants as refusal
 use Rattle.fields.specs.Field.{holds, field_at, number_then}
-use Rattle.fields.specs.declared.Field.{Field}
-use Rattle.fields.specs.declared.Field.TheVariants as field
 use Rattle.fields.proofs.Inverse.{is_below}
 use Rattle.fields.proofs.Laws.{there, is_whole, by_byte}
 use Rattle.numbers.proofs.Laws.{by_test}
 use Rattle.references.specs.declared.Opening.{Opening}
-use Rattle.references.specs.declared.Opening.TheVariants as opening
 use Rattle.references.proofs.Reading.{low_half, high_half}
+use Rattle.references.specs.Inner.Known.{Flagged}
 use Rattle.references.specs.Header.{flags_at, half_of, half_byte, new_in, is_new, segment, long_bit, flagged, start_of}
 
 half_below : (flag i : ℕ) → flag < 256 → half_of flag i < 16
@@ -61,30 +61,32 @@ module _ (b : List ℕ) (n : ℕ) where
       go (suc (suc r)) e h = absurd (omega arith)
 
 -- there are at most 255 references, and flags for all of them
-abbrev Flagged : List ℕ → Opening → Type 0
-Flagged b (opening.At n long p) = (n < 256) × (flags_at + (n + 1) / 2 ≤ length b)
-Flagged b (opening.No n x) = Unit {0}
+abbrev Begins : List ℕ → Result Opening Refusal → Type 0
+Begins b (Ok o) = Flagged b o
+Begins b (Err r) = Unit {0}
 
 module _ (b : List ℕ) (low : (k : ℕ) → get_or b k 0 < 256) where
-  flagged-there : (n : ℕ) → n < 256 → 3 ≤ length b → Flagged b (flagged b n)
+  flagged-there : (n : ℕ) → n < 256 → 3 ≤ length b → Begins b (flagged b n)
   unfolding flagged
-  flagged-there n few h = by_test (Flagged b) (eqb n 0) _ _ (omega arith, omega arith) (go (holds (n / 2 + 1) b flags_at) refl)
+  flagged-there n few h =
+      by_test (Begins b) (eqb n 0) _ _ (record { few = omega arith; flags = omega arith }) (go (holds (n / 2 + 1) b flags_at) refl)
     where
-      go : (t : Bool) → holds (n / 2 + 1) b flags_at ≡ t → Flagged b (cond t (opening.At n (long_bit b n) (flags_at + (n / 2 + 1))) (opening.No number.Eof 0))
-      go true e = (few, omega (arith, there (n / 2 + 1) b flags_at e))
+      go : (t : Bool) → holds (n / 2 + 1) b flags_at ≡ t →
+          Begins b (cond t (Ok (record { count = n; long = long_bit b n; first = flags_at + (n / 2 + 1) })) (Err refusal.Eof))
+      go true e = record { few = few; flags = omega (arith, there (n / 2 + 1) b flags_at e) }
       go false e = tt
 
-  count-there : Flagged b (number_then (opening.No number.Eof 0) 1 b (λ n _. flagged b n) 2)
+  count-there : Begins b (number_then (Err refusal.Eof) 1 b (λ n _. flagged b n) 2)
   unfolding number_then
   count-there = go (field_at 1 b 2) refl
     where
-      go : (f : Field) → field_at 1 b 2 ≡ f → Flagged b (number_then (opening.No number.Eof 0) 1 b (λ n _. flagged b n) 2)
-      go (field.Is n) e = rw e (flagged-there n (is_below 1 b 2 low e) (is_whole 1 b 2 e).0)
-      go field.Eof e = rw e tt
+      go : (f : Option ℕ) → field_at 1 b 2 ≡ f → Begins b (number_then (Err refusal.Eof) 1 b (λ n _. flagged b n) 2)
+      go (Some n) e = rw e (flagged-there n (is_below 1 b 2 low e) (is_whole 1 b 2 e).0)
+      go None e = rw e tt
 
-  start-flagged : Flagged b (start_of b)
+  start-flagged : Begins b (start_of b)
   unfolding start_of
-  start-flagged = by_test (Flagged b) (ltb cap.input (length b)) _ _ tt (by_byte _ _ 131 b _ 0 (Flagged b) tt (λ x. tt) (by_byte _ _ 68 b _ 1 (Flagged b) tt (λ x. tt) count-there))
+  start-flagged = by_test (Begins b) (ltb cap.input (length b)) _ _ tt (by_byte _ _ 131 b _ 0 (Begins b) tt (λ x. tt) (by_byte _ _ 68 b _ 1 (Begins b) tt (λ x. tt) count-there))
 
-  pub start-there : {n p : ℕ} {long : Bool} → start_of b ≡ opening.At n long p → (n < 256) × (flags_at + (n + 1) / 2 ≤ length b)
-  start-there e = subst (Flagged b) e start-flagged
+  pub start-there : {o : Opening} → start_of b ≡ Ok o → Flagged b o
+  start-there e = subst (Begins b) e start-flagged

@@ -1,106 +1,139 @@
 -- Laws of how a header begins and of a reference, one for each way that specs/Header.antt can go. Assumes nothing.
 use Prim.Native.Nat.{ℕ, ◌+◌, ◌/◌, ◌%◌, ◌≤◌, ◌<◌}
 use native.Mathlib.Omega.{arith}
-use mathlib.Core.Path.{◌≡◌, refl, sym, subst, ◌∙◌}
+use mathlib.Core.Path.{◌≡◌, refl, sym, ap, subst, ◌∙◌}
 use mathlib.Core.List.{List}
 use mathlib.Core.Bool.{Bool, true, false}
-use borrow.Author.Tests.{eq-eqb, ne_eqb, lt-ltb, le-ltb}
+use borrow.Author.Tests.{eq-eqb, ne_eqb, lt-ltb, le-ltb, leb-false}
+use lib.Dec.{leb}
 use lib.ListN.{length, get_or}
+use Rattle.std.specs.Prelude.{Option, Some, None, ok_or, Result, Ok, Err, IsErr}
+use Rattle.std.specs.Result.{IsErrAnd}
 use Rattle.numbers.specs.Caps as cap
-use Rattle.numbers.specs.Numbers as number
+use Rattle.numbers.specs.declared.Refusal.{Refusal}
+use Rattle.numbers.specs.declared.Refusal.TheVariants as refusal
+use Rattle.numbers.proofs.Laws.{handed}
+use Rattle.fields.specs.Be.{be_at}
 use Rattle.fields.specs.Field.{holds, field_at, number_then, byte_then}
-use Rattle.fields.specs.declared.Field.{Field}
-use Rattle.fields.specs.declared.Field.TheVariants as field
-use Rattle.fields.proofs.Laws.{is_whole, by_then, byte_is, byte_eof, expect_eof, expect_is, expect_other}
+use Rattle.fields.proofs.Laws.{is_whole, be-one, by_then, then_is, then_eof}
 use Rattle.rows.specs.Row as row
-use Rattle.rows.specs.declared.Row.{Row}
-use Rattle.rows.specs.declared.Row.TheVariants.{To, No}
 use Rattle.rows.proofs.Laws.{name-to}
-use Rattle.references.specs.declared.Opening.{Opening}
-use Rattle.references.specs.declared.Opening.TheVariants as opening
 use Rattle.references.specs.declared.Reference.{Reference}
 use Rattle.references.specs.declared.Reference.TheVariants as ref
 use Rattle.references.specs.Header.{flags_at, half_of, long_bit, flagged, start_of, named, new_at, reference_at}
 
+-- what a `?` hands on where a number is missing
+module _ {A : Type 0} (r : Result A Refusal) (y : Refusal) (left : IsErr r × IsErrAnd r (λ x. x ≡ y)) where
+  pub misses : {B : Type 0} {o : Option B} → o ≡ None → Err y ≡ ok_or o refusal.Eof → r ≡ Err refusal.Eof
+  misses {B} e f =
+      let g : ◌≡◌ {A = Result B Refusal} (Err y) (Err refusal.Eof) = rw e at f in
+      let h : y ≡ refusal.Eof = cc in
+      handed r left ∙ ap Err h
+
+-- the byte that a field is, and the place of one that is missing
+pub first_byte : (b : List ℕ) (p : ℕ) {x : ℕ} → field_at 1 b p ≡ Some x → (p < length b) × (get_or b p 0 ≡ x)
+first_byte b p e =
+    let (inside, n) = is_whole 1 b p e in
+    let here : p < length b = omega arith in
+    (here, sym (n ∙ be-one b p here))
+
+pub past-end : (b : List ℕ) (p : ℕ) → field_at 1 b p ≡ None → length b ≤ p
+unfolding field_at holds
+past-end b p e = go (leb (p + 1) (length b)) refl
+  where
+    go : (t : Bool) → leb (p + 1) (length b) ≡ t → length b ≤ p
+    go true h = let f : ◌≡◌ {A = Option ℕ} (Some (be_at 1 b p)) None = rw h at e in absurd (let z : ◌≡◌ {A = ℕ} 0 1 = cc in omega arith)
+    go false h = omega (arith, leb-false (p + 1) (length b) h)
+
 -- a name of n bytes, by its row
 module _ (b : List ℕ) (slot n p : ℕ) where
-  pub named-to : {e : ℕ} → row.name b n p ≡ To e → ref.New slot p n ≡ named b slot n p
+  pub named-to : {e : ℕ} → row.name b n p ≡ Ok e → Ok (ref.New slot p n) ≡ named b slot n p
   unfolding named
   named-to h = rw h
 
-  pub named-no : {x e : ℕ} → row.name b n p ≡ No x e → ref.No x e ≡ named b slot n p
+  pub named-no : {r : Refusal} → row.name b n p ≡ Err r → Err r ≡ named b slot n p
   unfolding named
   named-no h = rw h
 
+-- a name behind its length
+module _ (b : List ℕ) (wide slot p : ℕ) where
+  pub no_length : field_at wide b p ≡ None → Err refusal.Eof ≡ new_at b wide slot p
+  unfolding new_at
+  no_length e = sym (then_eof wide b p _ _ e)
+
+  pub lengthy : {n : ℕ} → field_at wide b p ≡ Some n → named b slot n (p + wide) ≡ new_at b wide slot p
+  unfolding new_at
+  lengthy e = sym (then_is wide b p _ _ e)
+
 -- the reference at a place
 module _ (b : List ℕ) (new : Bool) (wide p : ℕ) where
-  pub no-reference : length b ≤ p → ref.No number.Eof 0 ≡ reference_at b new wide p
+  pub no-reference : field_at 1 b p ≡ None → Err refusal.Eof ≡ reference_at b new wide p
   unfolding reference_at
-  no-reference h = sym (byte_eof _ b _ p h)
+  no-reference h = sym (then_eof 1 b p _ _ h)
 
-  module _ (h : p < length b) where
-    pub old_is : new ≡ false → ref.Old (get_or b p 0) ≡ reference_at b new wide p
+  module _ {slot : ℕ} (h : field_at 1 b p ≡ Some slot) where
+    pub old_is : new ≡ false → Ok (ref.Old slot) ≡ reference_at b new wide p
     unfolding reference_at
-    old_is e = sym (byte_is _ b _ p h ∙ rw e)
+    old_is e = sym (then_is 1 b p _ _ h ∙ rw e)
 
-    pub new_is : new ≡ true → new_at b wide (get_or b p 0) (p + 1) ≡ reference_at b new wide p
+    pub new_is : new ≡ true → new_at b wide slot (p + 1) ≡ reference_at b new wide p
     unfolding reference_at
-    new_is e = sym (byte_is _ b _ p h ∙ rw e)
+    new_is e = sym (then_is 1 b p _ _ h ∙ rw e)
 
 -- a new name lies in the input, behind its slot, which is the byte that stands first, and its length of `wide` bytes
 pub record FoundName (b : List ℕ) (new : Bool) (wide p slot at n : ℕ) : Type 0 where
   pub flag : new ≡ true
-  pub first : field_at 1 b p ≡ field.Is slot
-  pub size : field_at wide b (p + 1) ≡ field.Is n
+  pub first : field_at 1 b p ≡ Some slot
+  pub size : field_at wide b (p + 1) ≡ Some n
   pub place : at ≡ p + 1 + wide
   pub inside : at + n ≤ length b
 
-not_found : {P : Type 0} {x y slot at n : ℕ} → ref.No x y ≡ ref.New slot at n → P
+not_found : {P : Type 0} {r : Refusal} {slot at n : ℕ} → Err r ≡ Ok (ref.New slot at n) → P
 not_found e = absurd (let z : ◌≡◌ {A = ℕ} 0 1 = cc in omega arith)
 
 -- the name alone, of m bytes at p, in the slot s
 abbrev Named : List ℕ → (s m p slot at n : ℕ) → Type 0
 Named b s m p slot at n = (s ≡ slot) × (m ≡ n) × (at ≡ p) × (at + n ≤ length b)
 
-named-found : (b : List ℕ) (s m p : ℕ) {slot at n : ℕ} → named b s m p ≡ ref.New slot at n → Named b s m p slot at n
+named-found : (b : List ℕ) (s m p : ℕ) {slot at n : ℕ} → named b s m p ≡ Ok (ref.New slot at n) → Named b s m p slot at n
 unfolding named
 named-found b s m p {slot} {at} {n} e = go (row.name b m p) refl
   where
-    go : (r : Row) → row.name b m p ≡ r → Named b s m p slot at n
-    go (To q) h =
-        let f : ref.New s p m ≡ ref.New slot at n = rw h at e in
+    go : (r : Result ℕ Refusal) → row.name b m p ≡ r → Named b s m p slot at n
+    go (Ok q) h =
+        let f : ◌≡◌ {A = Result Reference Refusal} (Ok (ref.New s p m)) (Ok (ref.New slot at n)) = rw h at e in
         let i : at ≡ p = cc in
         let j : m ≡ n = cc in
         ((cc), j, i, omega (arith, (name-to b m p h).1))
-    go (No y d) h = not_found {x = y} {y = d} (rw h at e)
+    go (Err r) h = not_found {r = r} (rw h at e)
 
-pub found : (b : List ℕ) (new : Bool) (wide p : ℕ) {slot at n : ℕ} → reference_at b new wide p ≡ ref.New slot at n → FoundName b new wide p slot at n
+pub found : (b : List ℕ) (new : Bool) (wide p : ℕ) {slot at n : ℕ} → reference_at b new wide p ≡ Ok (ref.New slot at n) → FoundName b new wide p slot at n
 unfolding reference_at new_at number_then
 found b new wide p {slot} {at} {n} e = go (field_at 1 b p) refl new refl (field_at wide b (p + 1)) refl
   where
-    go : (f : Field) → field_at 1 b p ≡ f → (t : Bool) → new ≡ t → (g : Field) → field_at wide b (p + 1) ≡ g → FoundName b new wide p slot at n
-    go (field.Is m) h true k (field.Is l) g =
+    go : (f : Option ℕ) → field_at 1 b p ≡ f → (t : Bool) → new ≡ t → (g : Option ℕ) → field_at wide b (p + 1) ≡ g → FoundName b new wide p slot at n
+    go (Some m) h true k (Some l) g =
         let (s, i, j, inside) = named-found b m l (p + 1 + wide) (rw (h, k, g) at e) in
         record { flag = k; first = h ∙ rw s; size = g ∙ rw i; place = j; inside = inside }
-    go (field.Is m) h true k field.Eof g = not_found {x = number.Eof} {y = 0} (rw (h, k, g) at e)
-    go (field.Is m) h false k y g =
-        let f : ref.Old m ≡ ref.New slot at n = rw (h, k) at e in
+    go (Some m) h true k None g = not_found {r = refusal.Eof} (rw (h, k, g) at e)
+    go (Some m) h false k y g =
+        let f : ◌≡◌ {A = Result Reference Refusal} (Ok (ref.Old m)) (Ok (ref.New slot at n)) = rw (h, k) at e in
         absurd (let z : ◌≡◌ {A = ℕ} 0 1 = cc in omega arith)
-    go field.Eof h t k y g = not_found {x = number.Eof} {y = 0} (rw h at e)
+    go None h t k y g = not_found {r = refusal.Eof} (rw h at e)
 
 -- an old one's slot is the byte that stands there
-abbrev Old : List ℕ → Bool → ℕ → Reference → Type 0
-Old b new p (ref.Old slot) = (new ≡ false) × (field_at 1 b p ≡ field.Is slot)
-Old b new p (ref.New slot at n) = Unit {0}
-Old b new p (ref.No n x) = Unit {0}
+abbrev Old : List ℕ → Bool → ℕ → Result Reference Refusal → Type 0
+Old b new p (Ok (ref.Old slot)) = (new ≡ false) × (field_at 1 b p ≡ Some slot)
+Old b new p (Ok (ref.New slot at n)) = Unit {0}
+Old b new p (Err r) = Unit {0}
 
 named_old : (b : List ℕ) (new : Bool) (q s m p : ℕ) → Old b new q (named b s m p)
 unfolding named
 named_old b new q s m p = go (row.name b m p) refl
   where
-    go : (r : Row) → row.name b m p ≡ r → Old b new q (named b s m p)
-    go (To e) h = rw h tt
-    go (No x e) h = rw h tt
+    go : (r : Result ℕ Refusal) → row.name b m p ≡ r → Old b new q (named b s m p)
+    go (Ok e) h = rw h tt
+    go (Err r) h = rw h tt
 
 new_old : (b : List ℕ) (new : Bool) (q wide s p : ℕ) → Old b new q (new_at b wide s p)
 unfolding new_at
@@ -110,16 +143,16 @@ reference_old : (b : List ℕ) (new : Bool) (wide p : ℕ) → Old b new p (refe
 unfolding reference_at number_then
 reference_old b new wide p = go (field_at 1 b p) refl new
   where
-    go : (f : Field) → field_at 1 b p ≡ f → (t : Bool) → Old b t p (reference_at b t wide p)
-    go (field.Is m) h true = rw h (new_old b true p wide m (p + 1))
-    go (field.Is m) h false = rw h (refl, h)
-    go field.Eof h t = rw h tt
+    go : (f : Option ℕ) → field_at 1 b p ≡ f → (t : Bool) → Old b t p (reference_at b t wide p)
+    go (Some m) h true = rw h (new_old b true p wide m (p + 1))
+    go (Some m) h false = rw h (refl, h)
+    go None h t = rw h tt
 
-pub found_old : (b : List ℕ) (new : Bool) (wide p : ℕ) {slot : ℕ} → reference_at b new wide p ≡ ref.Old slot →
-    (new ≡ false) × (field_at 1 b p ≡ field.Is slot)
+pub found_old : (b : List ℕ) (new : Bool) (wide p : ℕ) {slot : ℕ} → reference_at b new wide p ≡ Ok (ref.Old slot) →
+    (new ≡ false) × (field_at 1 b p ≡ Some slot)
 found_old b new wide p e = subst (Old b new p) e (reference_old b new wide p)
 
-pub old_there : (b : List ℕ) (new : Bool) (wide p : ℕ) {slot : ℕ} → reference_at b new wide p ≡ ref.Old slot → p < length b
+pub old_there : (b : List ℕ) (new : Bool) (wide p : ℕ) {slot : ℕ} → reference_at b new wide p ≡ Ok (ref.Old slot) → p < length b
 old_there b new wide p e = omega (arith, (is_whole 1 b p (found_old b new wide p e).1).0)
 
 -- half byte i within its byte
@@ -134,66 +167,50 @@ module _ (flag i : ℕ) where
 
 -- the flags
 module _ (b : List ℕ) (n : ℕ) where
-  pub no-references : n ≡ 0 → opening.At 0 false flags_at ≡ flagged b n
+  pub no-references : n ≡ 0 → Ok (record { count = n; long = false; first = flags_at }) ≡ flagged b n
   unfolding flagged
   no-references e = rw e
 
   module _ (e : n ≡ 0 → ⊥) where
-    pub no-flags : holds (n / 2 + 1) b flags_at ≡ false → opening.No number.Eof 0 ≡ flagged b n
+    pub no-flags : holds (n / 2 + 1) b flags_at ≡ false → Err refusal.Eof ≡ flagged b n
     unfolding flagged
     no-flags h = rw (ne_eqb n 0 e, h)
 
-    pub flags : holds (n / 2 + 1) b flags_at ≡ true → opening.At n (long_bit b n) (flags_at + (n / 2 + 1)) ≡ flagged b n
+    pub flags : holds (n / 2 + 1) b flags_at ≡ true → Ok (record { count = n; long = long_bit b n; first = flags_at + (n / 2 + 1) }) ≡ flagged b n
     unfolding flagged
     flags h = rw (ne_eqb n 0 e, h)
 
--- the header's first bytes, one by one: what stands behind the first and behind the second
-abbrev missing : Opening
-missing = opening.No number.Eof 0
-
-abbrev count : List ℕ → ℕ → Opening
-count b = number_then missing 1 b (λ n _. flagged b n)
-
-abbrev kind : List ℕ → ℕ → Opening
-kind b = byte_then missing (opening.No number.Kind) 68 b (count b)
-
-abbrev another : ℕ → Opening
-another _ = opening.No number.Tag 0
-
+-- the header's first bytes, one by one
 module _ (b : List ℕ) where
-  pub too_long : cap.input < length b → opening.No number.Long 0 ≡ start_of b
+  pub too_long : cap.input < length b → Err refusal.Long ≡ start_of b
   unfolding start_of
   too_long l = rw (lt-ltb cap.input (length b) l)
 
   module _ (l : length b ≤ cap.input) where
-    begins : byte_then missing another 131 b (kind b) 0 ≡ start_of b
-    unfolding start_of
-    begins = rw (le-ltb cap.input (length b) l)
+    pub no-version : field_at 1 b 0 ≡ None → Err refusal.Eof ≡ start_of b
+    unfolding start_of byte_then number_then
+    no-version e = rw (le-ltb cap.input (length b) l, e)
 
-    pub no-version : length b < 1 → missing ≡ start_of b
-    no-version h = sym (expect_eof missing another 131 b (kind b) 0 (omega arith)) ∙ begins
+    module _ {v : ℕ} (is-v : field_at 1 b 0 ≡ Some v) where
+      pub other-version : (v ≡ 131 → ⊥) → Err refusal.Tag ≡ start_of b
+      unfolding start_of byte_then number_then
+      other-version h = rw (le-ltb cap.input (length b) l, is-v, ne_eqb v 131 h)
 
-    module _ (h₁ : 1 ≤ length b) where
-      pub other-version : (get_or b 0 0 ≡ 131 → ⊥) → opening.No number.Tag 0 ≡ start_of b
-      other-version v = sym (expect_other missing another 131 b (kind b) 0 (omega arith) v) ∙ begins
+      module _ (right : v ≡ 131) where
+        pub no_kind : field_at 1 b 1 ≡ None → Err refusal.Eof ≡ start_of b
+        unfolding start_of byte_then number_then
+        no_kind e = rw (le-ltb cap.input (length b) l, is-v, eq-eqb v 131 right, e)
 
-      module _ (v : get_or b 0 0 ≡ 131) where
-        versioned : kind b 1 ≡ start_of b
-        versioned = sym (expect_is missing another 131 b (kind b) 0 (omega arith) v) ∙ begins
+        module _ {k : ℕ} (is-k : field_at 1 b 1 ≡ Some k) where
+          pub other_kind : (k ≡ 68 → ⊥) → Err (refusal.Kind k) ≡ start_of b
+          unfolding start_of byte_then number_then
+          other_kind h = rw (le-ltb cap.input (length b) l, is-v, eq-eqb v 131 right, is-k, ne_eqb k 68 h)
 
-        pub no_kind : length b < 2 → missing ≡ start_of b
-        no_kind h = sym (expect_eof missing (opening.No number.Kind) 68 b (count b) 1 (omega arith)) ∙ versioned
+          module _ (header : k ≡ 68) where
+            pub no-count : field_at 1 b 2 ≡ None → Err refusal.Eof ≡ start_of b
+            unfolding start_of byte_then number_then
+            no-count e = rw (le-ltb cap.input (length b) l, is-v, eq-eqb v 131 right, is-k, eq-eqb k 68 header, e)
 
-        module _ (h₂ : 2 ≤ length b) where
-          pub other_kind : (get_or b 1 0 ≡ 68 → ⊥) → opening.No number.Kind (get_or b 1 0) ≡ start_of b
-          other_kind k = sym (expect_other missing (opening.No number.Kind) 68 b (count b) 1 (omega arith) k) ∙ versioned
-
-          module _ (k : get_or b 1 0 ≡ 68) where
-            kinded : count b 2 ≡ start_of b
-            kinded = sym (expect_is missing (opening.No number.Kind) 68 b (count b) 1 (omega arith) k) ∙ versioned
-
-            pub no-count : length b < 3 → missing ≡ start_of b
-            no-count h = sym (byte_eof missing b (λ n _. flagged b n) 2 (omega arith)) ∙ kinded
-
-            pub counted : 3 ≤ length b → flagged b (get_or b 2 0) ≡ start_of b
-            counted h = sym (byte_is missing b (λ n _. flagged b n) 2 (omega arith)) ∙ kinded
+            pub counted : {n : ℕ} → field_at 1 b 2 ≡ Some n → flagged b n ≡ start_of b
+            unfolding start_of byte_then number_then
+            counted e = rw (le-ltb cap.input (length b) l, is-v, eq-eqb v 131 right, is-k, eq-eqb k 68 header, e)

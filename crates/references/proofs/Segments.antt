@@ -10,16 +10,15 @@ use lib.Dec.{eqb, ltb, leb}
 use lib.ListN.{length, get_or, drop, set, length-set}
 use lib.Seq.{drop-drop, drop-set-lt, get_or-set_same, get_or-set_other, set_out}
 use Rattle.numbers.specs.Caps as cap
-use Rattle.numbers.specs.Numbers as number
+use Rattle.std.specs.Prelude.{Option, Some, None, Result, Ok, Err}
+use Rattle.numbers.specs.declared.Refusal.{Refusal}
+use Rattle.numbers.specs.declared.Refusal.TheVariants as refusal
 use Rattle.numbers.proofs.Laws.{by_test}
 use Rattle.fields.specs.Be.{be_at}
 use Rattle.fields.specs.Field.{holds, field_at, number_then, byte_then}
-use Rattle.fields.specs.declared.Field.{Field}
-use Rattle.fields.specs.declared.Field.TheVariants as field
 use Rattle.fields.proofs.Laws.{is_whole, be-one, by_byte}
 use Rattle.rows.specs.Row as row
 use Rattle.references.specs.declared.Opening.{Opening}
-use Rattle.references.specs.declared.Opening.TheVariants as opening
 use Rattle.references.specs.declared.Reference.{Reference}
 use Rattle.references.specs.declared.Reference.TheVariants as ref
 use Rattle.references.specs.Header.{Said, passed, flags_at, new_in, is_new, long_bit, flagged, start_of, named, new_at, reference_at, behind, references, opened, header_of}
@@ -44,13 +43,13 @@ pub record Alike (b c : List ℕ) : Type 0 where
 module _ (b c : List ℕ) (alike : Alike b c) where
   -- a number that is the same in both, and what is said of it
   then_same : {A : Type 0} (missing : A) (k : ℕ) (f g : ℕ → ℕ → A) (p : ℕ) → field_at k b p ≡ field_at k c p →
-      ((n : ℕ) → field_at k b p ≡ field.Is n → f n (p + k) ≡ g n (p + k)) → number_then missing k b f p ≡ number_then missing k c g p
+      ((n : ℕ) → field_at k b p ≡ Some n → f n (p + k) ≡ g n (p + k)) → number_then missing k b f p ≡ number_then missing k c g p
   unfolding number_then
   then_same missing k f g p e h = go (field_at k b p) refl
     where
-      go : (x : Field) → field_at k b p ≡ x → number_then missing k b f p ≡ number_then missing k c g p
-      go (field.Is n) i = rw (sym e, i) (h n i)
-      go field.Eof i = rw (sym e, i) refl
+      go : (x : Option ℕ) → field_at k b p ≡ x → number_then missing k b f p ≡ number_then missing k c g p
+      go (Some n) i = rw (sym e, i) (h n i)
+      go None i = rw (sym e, i) refl
 
   -- behind the flags all is the same
   from : (p : ℕ) → flags_end b ≤ p → drop p b ≡ drop p c
@@ -70,7 +69,7 @@ module _ (b c : List ℕ) (alike : Alike b c) where
   unfolding reference_at new_at
   reference-same new wide p h =
       then_same _ 1 _ _ p (field_same 1 p h)
-      (λ slot _. ap (λ (r : Reference). cond new r (ref.Old slot))
+      (λ slot _. ap (λ (r : Result Reference Refusal). cond new r (Ok (ref.Old slot)))
       (then_same _ wide _ _ (p + 1) (field_same wide (p + 1) (omega arith)) (λ n _. named-same slot n (p + 1 + wide) (omega arith))))
 
   -- what stands behind a reference, where it begins behind the flags
@@ -79,10 +78,10 @@ module _ (b c : List ℕ) (alike : Alike b c) where
   unfolding behind
   behind-same new wide p h f g k = rw (sym (reference-same new wide p h)) (go (reference_at b new wide p) refl)
     where
-      go : (r : Reference) → reference_at b new wide p ≡ r → behind p f r ≡ behind p g r
-      go (ref.Old slot) e = ap (passed (ref.Old slot)) (k (p + 1) (omega arith))
-      go (ref.New slot at n) e = ap (passed (ref.New slot at n)) (k (at + n) (omega (arith, (found b new wide p e).place)))
-      go (ref.No n x) e = refl
+      go : (r : Result Reference Refusal) → reference_at b new wide p ≡ r → behind p f r ≡ behind p g r
+      go (Ok (ref.Old slot)) e = ap (passed (ref.Old slot)) (k (p + 1) (omega arith))
+      go (Ok (ref.New slot at n)) e = ap (passed (ref.New slot at n)) (k (at + n) (omega (arith, (found b new wide p e).place)))
+      go (Err r) e = refl
 
   references-same : (wide i k p : ℕ) → i + k ≤ count b → flags_end b ≤ p → references b wide i k p ≡ references c wide i k p
   unfolding references
@@ -106,7 +105,7 @@ module _ (b c : List ℕ) (alike : Alike b c) where
   unfolding byte_then
   expect_same {A} missing other v f g p h e = then_same _ 1 _ _ p (byte_same p h) (λ x _. ap (λ (y : A). cond (eqb x v) y (other x)) e)
 
-  is-count : {n : ℕ} → field_at 1 b 2 ≡ field.Is n → n ≡ count b
+  is-count : {n : ℕ} → field_at 1 b 2 ≡ Some n → n ≡ count b
   is-count e = let (inside, n) = is_whole 1 b 2 e in n ∙ be-one b 2 (omega arith)
 
   -- so both begin alike, and what is opened is the same
@@ -118,12 +117,12 @@ module _ (b c : List ℕ) (alike : Alike b c) where
   unfolding start_of
   start-same =
       rw alike.size
-      (ap (λ (o : Opening). cond (ltb cap.input (length c)) (opening.No number.Long 0) o)
+      (ap (λ (o : Result Opening Refusal). cond (ltb cap.input (length c)) (Err refusal.Long) o)
       (expect_same _ _ 131 _ _ 0 (omega arith)
       (expect_same _ _ 68 _ _ 1 (omega arith)
       (then_same _ 1 _ _ 2 (byte_same 2 (omega arith)) (λ n e. rw (is-count e) flagged-same)))))
 
-  abbrev Opened : Opening → Type 0
+  abbrev Opened : Result Opening Refusal → Type 0
   Opened o = opened b o ≡ opened c o
 
   flagged-opened : Opened (flagged b (count b))
@@ -132,13 +131,13 @@ module _ (b c : List ℕ) (alike : Alike b c) where
       by_test Opened (eqb (count b) 0) _ _ refl
       (by_test Opened (holds (count b / 2 + 1) b flags_at) _ _ (references-same _ 0 (count b) (flags_end b) (omega arith) (omega arith)) refl)
 
-  count-opened : Opened (number_then (opening.No number.Eof 0) 1 b (λ n _. flagged b n) 2)
+  count-opened : Opened (number_then (Err refusal.Eof) 1 b (λ n _. flagged b n) 2)
   unfolding number_then opened
   count-opened = go (field_at 1 b 2) refl
     where
-      go : (f : Field) → field_at 1 b 2 ≡ f → Opened (number_then (opening.No number.Eof 0) 1 b (λ n _. flagged b n) 2)
-      go (field.Is n) e = rw (e, is-count e) flagged-opened
-      go field.Eof e = rw e refl
+      go : (f : Option ℕ) → field_at 1 b 2 ≡ f → Opened (number_then (Err refusal.Eof) 1 b (λ n _. flagged b n) 2)
+      go (Some n) e = rw (e, is-count e) flagged-opened
+      go None e = rw e refl
 
   start-opened : Opened (start_of b)
   unfolding start_of opened

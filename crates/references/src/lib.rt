@@ -10,67 +10,66 @@
 ghost use Rattle.std.specs.Prelude.{◌≡◌, cond};
 ghost use Rattle.references.specs.Header as said;
 
-use fields::Field;
-use rows::Row;
+use numbers::Refusal;
 
-// How a header begins: how many references it has, whether a length has two bytes, and where the first reference stands; or a refusal's
-// number and extra.
-#[derive(Clone, Copy)]
-pub enum Opening {
-    At(usize, bool, usize),
-    No(u64, u64),
+// How a header begins: how many references it has, whether a length has two bytes, and where the first reference stands.
+#[derive(Clone, Copy, PartialEq, Eq)]
+pub struct Opening {
+    pub count: usize,
+    pub long: bool,
+    pub first: usize,
 }
 
-// A reference of a header to a name: an old one's slot; a new one's slot, and its name's place in the header and its length; or a
-// refusal's number and extra.
-#[derive(Clone, Copy)]
+// A reference of a header to a name: an old one's slot; a new one's slot, and its name's place in the header and its length.
+#[derive(Clone, Copy, PartialEq, Eq)]
 pub enum Reference {
     Old(u8),
     New(u8, usize, usize),
-    No(u64, u64),
 }
 
 // Where the flags begin: behind 131, 68 and the count of references. Half byte i of them lies in byte i div 2.
 pub const FLAGS: usize = 3;
 
 // Reads what stands before a header's references: 131, 68, their count, and the flags. Refused: Long, then Eof, Tag, Kind with that byte.
-pub fn start(b: &[u8]) -> Opening
+pub fn start(b: &[u8]) -> Result<Opening, Refusal>
     ensures { result ≡ said.start_of b.now }
 {
     if numbers::INPUT < b.len() {
-        return Opening::No(numbers::LONG, 0);
+        return Err(Refusal::Long);
     }
-    if b.len() < 1 {
-        return Opening::No(numbers::EOF, 0);
+    let version = fields::be_u8(b, 0).ok_or(Refusal::Eof)?;
+    if version != 131 {
+        return Err(Refusal::Tag);
     }
-    if b[0] != 131 {
-        return Opening::No(numbers::TAG, 0);
+    let kind = fields::be_u8(b, 1).ok_or(Refusal::Eof)?;
+    if kind != 68 {
+        return Err(Refusal::Kind(kind));
     }
-    if b.len() < 2 {
-        return Opening::No(numbers::EOF, 0);
-    }
-    if b[1] != 68 {
-        return Opening::No(numbers::KIND, b[1] as u64);
-    }
-    if b.len() < 3 {
-        return Opening::No(numbers::EOF, 0);
-    }
-    flagged(b, b[2] as usize)
+    let count = fields::be_u8(b, 2).ok_or(Refusal::Eof)?;
+    flagged(b, usize::from(count))
 }
 
-// n references, with flags before them where there are any. A length has two bytes where the half byte after the last reference has the bit
+// References with flags before them where there are any. A length has two bytes where the half byte after the last reference has the bit
 // worth 1: the last flag byte's low half for an even count, its high half for an odd one.
-fn flagged(b: &[u8], n: usize) -> Opening
-    ensures { result ≡ said.flagged b.now n }
+fn flagged(b: &[u8], count: usize) -> Result<Opening, Refusal>
+    ensures { result ≡ said.flagged b.now count }
 {
-    if n == 0 {
-        return Opening::At(0, false, FLAGS);
+    if count == 0 {
+        return Ok(Opening {
+            count,
+            long: false,
+            first: FLAGS,
+        });
     }
-    let flags = n / 2 + 1;
+    let flags = count / 2 + 1;
     if !fields::has(b, FLAGS, flags) {
-        return Opening::No(numbers::EOF, 0);
+        return Err(Refusal::Eof);
     }
-    Opening::At(n, half(b[FLAGS + n / 2], n) % 2 == 1, FLAGS + flags)
+    Ok(Opening {
+        count,
+        long: half(b[FLAGS + count / 2], count) % 2 == 1,
+        first: FLAGS + flags,
+    })
 }
 
 // Whether reference i is new, by the flag byte that has its half byte: the bit worth 8.
@@ -85,16 +84,13 @@ pub fn is_new(flag: u8, i: usize) -> bool
 pub fn one_segment(b: &[u8], n: usize) -> bool
     ensures { result ≡ said.one_segment b.now n }
 {
-    let mut i = 0;
-    while i < n {
-        let at = FLAGS + i / 2;
-        if b.len() <= at {
+    for i in 0..n {
+        let Some(flag) = fields::be_u8(b, FLAGS + i / 2) else {
             return true;
-        }
-        if half(b[at], i) % 8 != 0 {
+        };
+        if half(flag, i) % 8 != 0 {
             return false;
         }
-        i += 1;
     }
     true
 }
@@ -107,48 +103,36 @@ fn half(flag: u8, i: usize) -> u8
 }
 
 // The reference at p: its slot, and behind that, where it is new, its name. A length has two bytes where `long`, else one. Refused: Eof, Text.
-pub fn reference_at(b: &[u8], new: bool, long: bool, p: usize) -> Reference
+pub fn reference_at(b: &[u8], new: bool, long: bool, p: usize) -> Result<Reference, Refusal>
     ensures { result ≡ said.reference_at b.now new (cond long 2 1) p }
 {
-    if b.len() <= p {
-        return Reference::No(numbers::EOF, 0);
+    let slot = fields::be_u8(b, p).ok_or(Refusal::Eof)?;
+    if new {
+        new_at(b, slot, long, p + 1)
+    } else {
+        Ok(Reference::Old(slot))
     }
-    let slot = b[p];
-    if !new {
-        return Reference::Old(slot);
-    }
-    new_at(b, slot, long, p + 1)
 }
 
 // A name behind its length.
-fn new_at(b: &[u8], slot: u8, long: bool, p: usize) -> Reference
+fn new_at(b: &[u8], slot: u8, long: bool, p: usize) -> Result<Reference, Refusal>
     ensures { result ≡ said.new_at b.now (cond long 2 1) slot p }
 {
     if long {
-        let f = fields::be_u16(b, p);
-        match f {
-            Field::Is(n) => named(b, slot, n as usize, p + 2),
-            Field::Eof => Reference::No(numbers::EOF, 0),
-        }
+        let n = fields::be_u16(b, p).ok_or(Refusal::Eof)?;
+        named(b, slot, usize::from(n), p + 2)
     } else {
-        let f = fields::be_u8(b, p);
-        match f {
-            Field::Is(n) => named(b, slot, n as usize, p + 1),
-            Field::Eof => Reference::No(numbers::EOF, 0),
-        }
+        let n = fields::be_u8(b, p).ok_or(Refusal::Eof)?;
+        named(b, slot, usize::from(n), p + 1)
     }
 }
 
 // Most names are ASCII, for which there is a short way.
-fn named(b: &[u8], slot: u8, n: usize, p: usize) -> Reference
+fn named(b: &[u8], slot: u8, n: usize, p: usize) -> Result<Reference, Refusal>
     ensures { result ≡ said.named b.now slot n p }
 {
-    if utf8::ascii(b, p, n) {
-        return Reference::New(slot, p, n);
+    if !utf8::ascii(b, p, n) {
+        rows::name(b, n, p)?;
     }
-    let row = rows::name(b, n, p);
-    match row {
-        Row::To(_) => Reference::New(slot, p, n),
-        Row::No(number, extra) => Reference::No(number, extra),
-    }
+    Ok(Reference::New(slot, p, n))
 }

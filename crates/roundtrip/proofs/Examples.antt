@@ -13,7 +13,7 @@ use Rattle.layouts.specs.Layout as layout
 use Rattle.layouts.specs.Layout.{Laid, row}
 use Rattle.layouts.specs.Nodes.{nodes, nodes_all}
 use Rattle.layouts.specs.Values.{by_sign, big_integer}
-use Rattle.reading.specs.declared.Answer.{Answer}
+use Rattle.reading.specs.Told.{Told}
 use Rattle.tape.specs.Cells.{words, taped}
 use Rattle.tape.specs.Inner.Fill.{words_all}
 use Rattle.tape.specs.Read.{Recorded}
@@ -51,11 +51,11 @@ unfolding written trees_of first behind ended tree_of kids_of bytes_of bytes siz
 nils_back = (refl, refl)
 
 -- bytes that are a term's return what is told of that term's tape
-returned : {s : List Item} {limit : ℕ} {r : Answer} {old new : List ℕ} (t : Tree) → Laid plain t → Recorded (131 ∷ bytes t) limit r old new → Returns (131 ∷ bytes t) s r new →
+returned : {s : List Item} {limit : ℕ} {r : Told} {old new : List ℕ} (t : Tree) → Laid plain t → Recorded (131 ∷ bytes t) limit r old new → Returns (131 ∷ bytes t) s r new →
     told (131 ∷ bytes t) (taped 1 t old) (length s + tails s) ≡ s
 returned t l p h = rw (wrote p h.done t l refl, h.cells) at h.items
 
-module _ {limit : ℕ} {r : Answer} {old new : List ℕ} where
+module _ {limit : ℕ} {r : Told} {old new : List ℕ} where
   -- -1 as the byte 255: that is 255
   pub unsigned : Recorded (131 ∷ 97 ∷ 255 ∷ []) limit r old new → ¬ Returns (131 ∷ 97 ∷ 255 ∷ []) (integer (negsuc 0) ∷ []) r new
   unfolding bytes nodes flat_map words taped tails tails_of told is_tail item_at said front_length be

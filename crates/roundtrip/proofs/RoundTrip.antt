@@ -7,9 +7,9 @@ use mathlib.Core.Path.{◌≡◌, ap, ◌∙◌}
 use mathlib.Core.Bool.{true, false}
 use mathlib.Core.List.{List}
 use lib.ListN.{length, take}
-use Rattle.numbers.specs.Numbers as number
+use Rattle.std.specs.Prelude.{Ok}
 use Rattle.layouts.specs.Tree.{Tree, node, none, more, size, sizes, depth, depths}
-use Rattle.reading.specs.declared.Answer.{Answer}
+use Rattle.reading.specs.Told.{Told}
 use Rattle.tape.specs.Read.{Recorded}
 use Rattle.tape.proofs.Reading.{behind_131}
 use Rattle.tape.proofs.Accepts.{at_front}
@@ -30,7 +30,7 @@ unfolding depth
 one_deep (node tag front ts back) = omega arith
 
 -- "What is written, read back with enough cells and limit, gives the same items in order, tail Nils left out and a tag 110 taken as its number"
-pub returns : {s : List Item} {limit : ℕ} {r : Answer} {old new : List ℕ} → accepted s ≡ true → Enough s limit (length old) → Recorded (written s) limit r old new →
+pub returns : {s : List Item} {limit : ℕ} {r : Told} {old new : List ℕ} → accepted s ≡ true → Enough s limit (length old) → Recorded (written s) limit r old new →
     Returns (written s) s r new
 unfolding depths sizes
 returns {s} {limit} {r} {old} {new} e h p =
@@ -41,8 +41,8 @@ returns {s} {limit} {r} {old} {new} e h p =
     let n = counted says in
     let nested : depth t ≤ limit = omega (arith, h.nested, ap depths w.only, le-max_left (depth t) 0) in
     let (d, c) = complete (written s) limit (length old) (omega (arith, one_deep t)) h.legal a.short (record { tree = t; laid = w.laid; is = w.is; nested = nested; room = omega (arith, h.room) }) in
-    let done : r.number ≡ 0 = ap (λ (x : Answer). x.number) p.answered ∙ d in
-    let begun : r.begun ≡ size t = ap (λ (x : Answer). x.begun) p.answered ∙ c in
+    let done : r.number ≡ 0 = ap (λ (x : Told). x.number) p.answered ∙ d in
+    let begun : r.begun ≡ size t = ap (λ (x : Told). x.begun) p.answered ∙ c in
     record {
       done = done;
       cells = omega arith;
@@ -50,9 +50,8 @@ returns {s} {limit} {r} {old} {new} e h p =
     }
 
 -- the same of a write that was Done: the bytes that it says it wrote, the front of what was lent, return the row
-pub round_trip : (s : List Item) (lent : List ℕ) → (write_over s lent).answer.number ≡ number.Done → {limit : ℕ} {r : Answer} {old new : List ℕ} → Enough s limit (length old) →
-    Recorded (take (write_over s lent).answer.len (write_over s lent).bytes) limit r old new →
-    Returns (take (write_over s lent).answer.len (write_over s lent).bytes) s r new
+pub round_trip : (s : List Item) (lent : List ℕ) {n : ℕ} → (write_over s lent).answer ≡ Ok n → {limit : ℕ} {r : Told} {old new : List ℕ} → Enough s limit (length old) →
+    Recorded (take n (write_over s lent).bytes) limit r old new → Returns (take n (write_over s lent).bytes) s r new
 round_trip s lent e h p =
     let (a, b) = done_writes s lent e in
     rw b (returns a h (rw b at p))

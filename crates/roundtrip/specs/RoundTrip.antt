@@ -4,7 +4,7 @@ use Rattle.std.specs.Prelude.{ℕ, ◌+◌, ◌*◌, ◌≤◌, ◌≡◌, List,
 use Rattle.numbers.specs.Caps as cap
 use Rattle.numbers.specs.Numbers as number
 use Rattle.layouts.specs.Tree.{depths}
-use Rattle.reading.specs.declared.Answer.{Answer}
+use Rattle.reading.specs.Told.{Told}
 use Rattle.tape.specs.Cells.{cell_words}
 use Rattle.measure.specs.Item.{Item, integer, double, atom, binary, tuple, list, map, nil, wrong}
 use Rattle.measure.specs.Term.{trees_of}
@@ -33,7 +33,7 @@ pub record Enough (s : List Item) (limit words : ℕ) : Type 0 where
   pub legal : limit ≤ cap.nesting
 
 -- the bytes b were read with the answer r and this tape, and return the row s
-pub record Returns (b : List ℕ) (s : List Item) (r : Answer) (tape : List ℕ) : Type 0 where
+pub record Returns (b : List ℕ) (s : List Item) (r : Told) (tape : List ℕ) : Type 0 where
   pub done : r.number ≡ number.Done
   pub cells : r.begun ≡ length s + tails s
   -- "gives the same items in order"

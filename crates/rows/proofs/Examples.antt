@@ -11,23 +11,24 @@ use Rattle.literal.specs.Inner.Parse.{is_literal}
 use Rattle.rows.specs.Row.{bytes, name, count_then}
 use Rattle.numbers.specs.Caps.{bits_byte}
 use Rattle.rows.specs.Layout.{number_text, bits_then, row_at}
-use Rattle.rows.specs.declared.Row.TheVariants.{To, No}
+use Rattle.std.specs.Prelude.{Ok, Err}
+use Rattle.numbers.specs.declared.Refusal.TheVariants as refusal
 
 -- 77 0 0 0 0 8 is accepted, and 7 bits are not
-pub empty_bits : row_at (0 ∷ 0 ∷ 0 ∷ 0 ∷ 8 ∷ []) 77 0 ≡ To 5
+pub empty_bits : row_at (0 ∷ 0 ∷ 0 ∷ 0 ∷ 8 ∷ []) 77 0 ≡ Ok 5
 unfolding row_at bits_then bits_byte bytes count_then number_then holds field_at be_at be
 empty_bits = refl
 
-pub empty_bits_7 : row_at (0 ∷ 0 ∷ 0 ∷ 0 ∷ 7 ∷ []) 77 0 ≡ No 5 0
+pub empty_bits_7 : row_at (0 ∷ 0 ∷ 0 ∷ 0 ∷ 7 ∷ []) 77 0 ≡ Err refusal.Bits
 unfolding row_at bits_then bits_byte bytes count_then number_then holds field_at be_at be
 empty_bits_7 = refl
 
 -- a text of tag 99 that is neither UTF-8 nor a literal is refused as text: Text comes before Literal
-pub text-first : row_at (255 ∷ replicate 30 0) 99 0 ≡ No 3 0
+pub text-first : row_at (255 ∷ replicate 30 0) 99 0 ≡ Err refusal.Text
 unfolding row_at number_text name bytes holds good_bytes good_from char_bytes decode scalar encode starts
 text-first = refl
 
 -- an empty one is no literal
-pub no-literal : row_at (replicate 31 0) 99 0 ≡ No 4 0
+pub no-literal : row_at (replicate 31 0) 99 0 ≡ Err refusal.Literal
 unfolding row_at number_text name bytes holds good_bytes good_from char_bytes decode scalar encode starts trimmed is_literal
 no-literal = refl

@@ -12,7 +12,7 @@ use lib.ListN.{length, get_or}
 use Rattle.numbers.specs.Caps as cap
 use Rattle.numbers.proofs.Laws.{none_of, arm}
 use Rattle.fields.specs.Field.{holds, field_at, number_at}
-use Rattle.fields.specs.declared.Field.TheVariants as field
+use Rattle.std.specs.Prelude.{Some, None, Ok}
 use Rattle.fields.proofs.Laws.{there, is-there, field_is, at_there, then_is}
 use Rattle.utf8.specs.Inner.Check.{Plain}
 use Rattle.utf8.proofs.Laws.{ascii_good}
@@ -20,7 +20,6 @@ use Rattle.rows.specs.Row.{bytes, name, sized, counted}
 use Rattle.numbers.specs.Allowed.{Allowed}
 use Rattle.rows.specs.Layout.{leaf_at, row_at}
 use Rattle.shortcut.specs.Inner.Short.{plain, short_name, short_binary, short_by, short_end}
-use Rattle.rows.specs.declared.Row.TheVariants.{To}
 use Rattle.rows.proofs.Laws.{bytes-there, name-good, count_in, counted_is, plain-leaf}
 use Rattle.rows.proofs.Ends.{row_within}
 
@@ -42,7 +41,7 @@ module _ (b : List ℕ) where
           (x : Bool) → ltb (get_or b p 0) 0x80 ≡ x → (x && plain b (p + 1) n) ≡ true → (y : Bool) → eqb k p ≡ y → get_or b k 0 < 0x80
       go rest true e f true g = rw (eqb-true k p g) (ltb-true _ _ e)
       go rest true e f false g = rest f k (omega (arith, eqb-false k p g)) (omega arith)
-      go rest false e f y g = absurd (let z : ◌≡◌ {A = ℕ} 0 1 = cc in omega arith)
+      go rest false e f y g = absurd cc
 
   plain-there : (p n : ℕ) → holds n b p ≡ true → plain b p n ≡ true → Plain b p (p + n)
   plain-there p n h k = record { order = omega arith; within = there n b p h; low = plain-low p n k }
@@ -63,89 +62,89 @@ module _ (b : List ℕ) (p : ℕ) where
   short_tag tag h e = rw (le-leb (p + 10) (length b) h, e)
 
   -- any other tag
-  pub short_none : (t : ℕ) → p + 10 ≤ length b → get_or b p 0 ≡ t → ¬ (t ≡ 97) → ¬ (t ≡ 98) → ¬ (t ≡ 70) → ¬ (t ≡ 106) → ¬ (t ≡ 119) → ¬ (t ≡ 109) → 0 ≡ short_end b p
-  unfolding short_by
-  short_none t h e h₁ h₂ h₃ h₄ h₅ h₆ = let z : 0 ≡ short_by b p t = search none_of in z ∙ short_tag t h e
+  pub other : p + 10 ≤ length b → None ≡ short_by b p (get_or b p 0) → None ≡ short_end b p
+  other h e = e ∙ short_tag _ h refl
 
-  pub short_far : length b < p + 10 → 0 ≡ short_end b p
+  pub short_far : length b < p + 10 → None ≡ short_end b p
   unfolding short_end
   short_far h = rw (lt-leb (p + 10) (length b) h)
 
   -- by the test that is made of so many bytes
-  pub name_by : {n : ℕ} → n ≡ number_at 1 b (p + 1) → {x : Bool} → (x ≡ true) ↔ Plain b (p + 2) (p + 2 + n) → (y : Bool) → x ≡ y → cond y (p + 2 + n) 0 ≡ short_name b p
+  pub name_by : {n : ℕ} → n ≡ number_at 1 b (p + 1) → {x : Bool} → (x ≡ true) ↔ Plain b (p + 2) (p + 2 + n) → (y : Bool) → x ≡ y → cond y (Some (p + 2 + n)) None ≡ short_name b p
   unfolding short_name
   name_by {n} e {x} f y g =
-      ap (λ (z : Bool). cond z (p + 2 + n) 0) (sym g ∙ plain-is b (p + 2) n x f)
-      ∙ ap (λ (m : ℕ). cond (holds m b (p + 2) && plain b (p + 2) m) (p + 2 + m) 0) e
+      ap (λ (z : Bool). cond z (Some (p + 2 + n)) None) (sym g ∙ plain-is b (p + 2) n x f)
+      ∙ ap (λ (m : ℕ). cond (holds m b (p + 2) && plain b (p + 2) m) (Some (p + 2 + m)) None) e
 
-  pub binary_by : {n : ℕ} → n ≡ number_at 4 b (p + 1) → (y : Bool) → holds n b (p + 5) ≡ y → cond y (p + 5 + n) 0 ≡ short_binary b p
+  pub binary_by : {n : ℕ} → n ≡ number_at 4 b (p + 1) → (y : Bool) → holds n b (p + 5) ≡ y → cond y (Some (p + 5 + n)) None ≡ short_binary b p
   unfolding short_binary
-  binary_by {n} e y g = ap (λ (z : Bool). cond z (p + 5 + n) 0) (sym g) ∙ ap (λ (m : ℕ). cond (holds m b (p + 5)) (p + 5 + m) 0) e
+  binary_by {n} e y g = ap (λ (z : Bool). cond z (Some (p + 5 + n)) None) (sym g) ∙ ap (λ (m : ℕ). cond (holds m b (p + 5)) (Some (p + 5 + m)) None) e
 
   -- the rows
   module _ (room : p + 10 ≤ length b) (size : length b ≤ cap.input) where
-    some : (k e : ℕ) → k ≤ 8 → p + 1 + k ≡ e → bytes b k (p + 1) ≡ To e
-    some k e h i = sym (bytes-there b k (p + 1) (is-there k b (p + 1) (omega arith))) ∙ ap To i
+    some : (k x e : ℕ) → k ≤ 8 → p + 1 + k ≡ x → Some x ≡ Some e → bytes b k (p + 1) ≡ Ok e
+    some k x e h i j = let q : x ≡ e = cc in sym (bytes-there b k (p + 1) (is-there k b (p + 1) (omega arith))) ∙ ap Ok (i ∙ q)
 
-    whole : (k : ℕ) → k ≤ 8 → field_at k b (p + 1) ≡ field.Is (number_at k b (p + 1))
+    whole : (k : ℕ) → k ≤ 8 → field_at k b (p + 1) ≡ Some (number_at k b (p + 1))
     whole k h = sym (field_is k b (p + 1) (is-there k b (p + 1) (omega arith)) (at_there k b (p + 1) (omega arith)))
 
-    name-row : ¬ (short_name b p ≡ 0) → sized 1 b (name b) (p + 1) ≡ To (short_name b p)
+    name-row : (e : ℕ) → short_name b p ≡ Some e → sized 1 b (name b) (p + 1) ≡ Ok e
     unfolding short_name
-    name-row = go (holds n b (p + 2)) refl (plain b (p + 2) n) refl
+    name-row e = go (holds n b (p + 2)) refl (plain b (p + 2) n) refl
       where
         n : ℕ
         n = number_at 1 b (p + 1)
 
-        go : (x : Bool) → holds n b (p + 2) ≡ x → (y : Bool) → plain b (p + 2) n ≡ y → ¬ (cond (x && y) (p + 2 + n) 0 ≡ 0) →
-            sized 1 b (name b) (p + 1) ≡ To (cond (x && y) (p + 2 + n) 0)
-        go true e true f h =
+        go : (x : Bool) → holds n b (p + 2) ≡ x → (y : Bool) → plain b (p + 2) n ≡ y → cond (x && y) (Some (p + 2 + n)) None ≡ Some e → sized 1 b (name b) (p + 1) ≡ Ok e
+        go true i true f h =
             let q : p + 1 + 1 ≡ p + 2 = omega arith in
-            then_is 1 b (p + 1) _ _ (whole 1 (omega arith)) ∙ rw q (sym (name-good b n (p + 2) e (ascii_good (plain-there b (p + 2) n e f))))
-        go true e false f h = absurd (h refl)
-        go false e y f h = absurd (h refl)
+            let z : p + 2 + n ≡ e = cc in
+            then_is 1 b (p + 1) _ _ (whole 1 (omega arith)) ∙ rw q (sym (name-good b n (p + 2) i (ascii_good (plain-there b (p + 2) n i f))) ∙ ap Ok z)
+        go true i false f h = absurd cc
+        go false i y f h = absurd cc
 
-    binary-row : ¬ (short_binary b p ≡ 0) → counted cap.binary b (bytes b) (p + 1) ≡ To (short_binary b p)
+    binary-row : (e : ℕ) → short_binary b p ≡ Some e → counted cap.binary b (bytes b) (p + 1) ≡ Ok e
     unfolding short_binary
-    binary-row = go (holds n b (p + 5)) refl
+    binary-row e = go (holds n b (p + 5)) refl
       where
         n : ℕ
         n = number_at 4 b (p + 1)
 
-        go : (x : Bool) → holds n b (p + 5) ≡ x → ¬ (cond x (p + 5 + n) 0 ≡ 0) → counted cap.binary b (bytes b) (p + 1) ≡ To (cond x (p + 5 + n) 0)
-        go true e h =
+        go : (x : Bool) → holds n b (p + 5) ≡ x → cond x (Some (p + 5 + n)) None ≡ Some e → counted cap.binary b (bytes b) (p + 1) ≡ Ok e
+        go true i h =
             let q : p + 1 + 4 ≡ p + 5 = omega arith in
-            counted_is cap.binary b (p + 1) _ _ (count_in cap.binary b (p + 1) (whole 4 (omega arith)) (omega (arith, there n b (p + 5) e))) ∙ rw q (sym (bytes-there b n (p + 5) e))
-        go false e h = absurd (h refl)
+            let z : p + 5 + n ≡ e = cc in
+            counted_is cap.binary b (p + 1) _ _ (count_in cap.binary b (p + 1) (whole 4 (omega arith)) (omega (arith, there n b (p + 5) i))) ∙ rw q (sym (bytes-there b n (p + 5) i) ∙ ap Ok z)
+        go false i h = absurd cc
 
     abbrev Row : ℕ → Type 0
-    Row t = ¬ (short_by b p t ≡ 0) → (allow : Allowed) → leaf_at allow b t (p + 1) ≡ To (short_by b p t)
+    Row t = (e : ℕ) → short_by b p t ≡ Some e → (allow : Allowed) → leaf_at allow b t (p + 1) ≡ Ok e
 
     by_tags : (t : ℕ) → Row t
     unfolding short_by leaf_at row_at
     by_tags t =
-        arm Row t 97 (λ _ _. some 1 _ (omega arith) (omega arith))
-        (arm Row t 98 (λ _ _. some 4 _ (omega arith) (omega arith))
-        (arm Row t 70 (λ _ _. some 8 _ (omega arith) (omega arith))
-        (arm Row t 106 (λ _ _. refl)
-        (arm Row t 119 (λ h _. name-row h)
-        (arm Row t 109 (λ h _. binary-row h)
-        (λ n k. let z : short_by b p t ≡ 0 = search none_of in absurd (k z))))))) (tt {0})
+        arm Row t 97 (λ e h _. some 1 _ e (omega arith) (omega arith) h)
+        (arm Row t 98 (λ e h _. some 4 _ e (omega arith) (omega arith) h)
+        (arm Row t 70 (λ e h _. some 8 _ e (omega arith) (omega arith) h)
+        (arm Row t 106 (λ e h _. let z : p + 1 ≡ e = cc in ap Ok z)
+        (arm Row t 119 (λ e h _. name-row e h)
+        (arm Row t 109 (λ e h _. binary-row e h)
+        (λ n e h. let z : short_by b p t ≡ None = search none_of in absurd cc)))))) (tt {0})
 
 -- the row whose tag stands at p ends at e, whatever is allowed
 pub record ShortRow (b : List ℕ) (p e : ℕ) : Type 0 where
-  pub same : (allow : Allowed) → leaf_at allow b (get_or b p 0) (p + 1) ≡ To e
+  pub same : (allow : Allowed) → leaf_at allow b (get_or b p 0) (p + 1) ≡ Ok e
   pub after : p < e
   pub inside : e ≤ length b
 
-pub short_row : (b : List ℕ) (p : ℕ) → length b ≤ cap.input → ¬ (short_end b p ≡ 0) → ShortRow b p (short_end b p)
+pub short_row : (b : List ℕ) (p : ℕ) {e : ℕ} → length b ≤ cap.input → short_end b p ≡ Some e → ShortRow b p e
 unfolding short_end
-short_row b p size = go (leb (p + 10) (length b)) refl
+short_row b p {e} size = go (leb (p + 10) (length b)) refl
   where
-    go : (x : Bool) → leb (p + 10) (length b) ≡ x → ¬ (cond x (short_by b p (get_or b p 0)) 0 ≡ 0) → ShortRow b p (cond x (short_by b p (get_or b p 0)) 0)
-    go true e h =
-        let room = leb-true _ _ e in
-        let s = by_tags b p room size (get_or b p 0) h in
+    go : (x : Bool) → leb (p + 10) (length b) ≡ x → cond x (short_by b p (get_or b p 0)) None ≡ Some e → ShortRow b p e
+    go true i h =
+        let room = leb-true _ _ i in
+        let s = by_tags b p room size (get_or b p 0) e h in
         let w = row_within b (get_or b p 0) (p + 1) (sym (plain-leaf b (get_or b p 0) (p + 1)) ∙ s _) (omega arith) in
         record { same = s; after = omega arith; inside = w.1 }
-    go false e h = absurd (h refl)
+    go false i h = absurd cc

@@ -6,31 +6,38 @@
 
 #![tactic(auto)]
 
+use numbers::Refusal;
 use print::Out;
+use std::fmt;
+use std::fmt::Write;
 use std::process::ExitCode;
 
+// The most bytes of a text.
+const TEXT: usize = 65536;
+
 fn main(rt: HostRuntime) -> ExitCode {
-    let mut input = [0u8; 65537];
+    let mut input = [0u8; TEXT + 1];
     let mut room = [0u8; 4096];
     let mut out = Out::new(&mut room, rt.stdout(), rt.stderr());
-    let n = input::fill(rt.stdin(), &mut input);
-    if n == input::FAILED {
-        print::unread(&mut out);
-    } else if 65536 < n {
-        let put = print::line(&mut out, 0, b"answer=", numbers::LONG);
-        print::refused(&mut out, put);
-    } else {
-        show(&input[..n], &mut out);
+    match input::fill(rt.stdin(), &mut input) {
+        // an output that fails says so itself
+        Ok(n) => {
+            let _ = show(&input[..n], &mut out);
+        }
+        Err(_) => out.unread(),
     }
-    print::status(&out)
+    out.status()
 }
 
-fn show(text: &[u8], out: &mut Out<'_>) {
+fn show(text: &[u8], out: &mut Out<'_>) -> fmt::Result {
+    if TEXT < text.len() {
+        writeln!(out, "answer={}", Refusal::Long.number())?;
+        return out.refused();
+    }
     let left = literal::trim(text);
-    let number = literal::literal(&text[..left]);
-    let mut put = print::line(out, 0, b"bytes=", text.len() as u64);
-    put = print::line(out, put, b"good=", utf8::good(text) as u64);
-    put = print::line(out, put, b"trimmed=", left as u64);
-    put = print::line(out, put, b"literal=", number as u64);
-    print::flush(out, put);
+    writeln!(out, "bytes={}", text.len())?;
+    writeln!(out, "good={}", utf8::good(text))?;
+    writeln!(out, "trimmed={left}")?;
+    writeln!(out, "literal={}", u8::from(literal::literal(&text[..left])))?;
+    out.flush()
 }

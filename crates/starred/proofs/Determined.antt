@@ -2,17 +2,21 @@
 -- the order of crates.txt. No promise is written again here: `f.Post` is what the `ensures` of f say of its arguments, its answer and its
 -- parameters at the end, as the check of f's own crate has them. Assumes nothing.
 use Prim.Native.Nat.{ℕ}
-use mathlib.Core.Path.{◌≡◌, refl, sym, ◌∙◌}
+use mathlib.Core.Path.{◌≡◌, refl, sym, ap, ◌∙◌}
 use mathlib.Core.Logic.{◌↔◌}
 use mathlib.Core.List.{List, [], ◌∷◌}
 use mathlib.Core.Bool.{Bool, true, false}
 use Rattle.numbers.specs.Bits.{bit}
+use Rattle.cache.specs.declared.Cache.{Cache}
 use Rattle.message.specs.declared.MessageRead.{MessageRead}
 use Rattle.tape.proofs.Accepts as tape
 use Rattle.tape.proofs.Records.{record_sure}
 use Rattle.message.proofs.Sure.{message_sure}
+use Rattle.reading.proofs.Told.{told_alike}
 use Rattle.lookup.proofs.Meaning.{one_answer}
 use Rattle.jig.proofs.Told.{told_once, read_once}
+use Rattle.numbers.proofs.Refusal.number.Reads as numbers_number
+use Rattle.numbers.proofs.Refusal.extra.Reads as numbers_extra
 use Rattle.fields.proofs.has.Reads as fields-has
 use Rattle.fields.proofs.be_u8.Reads as fields-be-u8
 use Rattle.fields.proofs.be_u16.Reads as fields-be-u16
@@ -32,15 +36,18 @@ use Rattle.rows.proofs.row_at.Reads as rows_row-at
 use Rattle.rows.proofs.count.Reads as rows_count
 use Rattle.rows.proofs.name.Reads as rows_name
 use Rattle.shortcut.proofs.end_at.Reads as shortcut_end-at
-use Rattle.reading.proofs.kind_number.Reads as reading_kind_number
-use Rattle.reading.proofs.refusal.Reads as reading_refusal
+use Rattle.reading.proofs.U64FromKind.from.Reads as reading_kind_number
+use Rattle.reading.proofs.Path.empty.Reads as reading_empty
+use Rattle.reading.proofs.Path.as_slice.Reads as reading_as-slice
+use Rattle.reading.proofs.Answer.refused.Reads as reading_refused
 use Rattle.reading.proofs.is_atom.Reads as reading_is-atom
 use Rattle.reading.proofs.is_natural.Reads as reading_is_natural
 use Rattle.reading.proofs.starts.Reads as reading_starts
-use Rattle.reading.proofs.plainly.Reads as reading_plainly
+use Rattle.reading.proofs.Asked.plainly.Reads as reading_plainly
 use Rattle.terms.proofs.read.Reads as terms_read
 use Rattle.heads.proofs.head.Reads as heads_head
 use Rattle.heads.proofs.part.Reads as heads_part
+use Rattle.heads.proofs.Headed.run.Reads as heads_run
 use Rattle.headwords.proofs.words.Reads as headwords_words
 use Rattle.headwords.proofs.place.Reads as headwords_place
 use Rattle.layouts.proofs.shape_at.Reads as layouts_shape_at
@@ -54,10 +61,12 @@ use Rattle.references.proofs.start.Reads as references-start
 use Rattle.references.proofs.is_new.Reads as references-is_new
 use Rattle.references.proofs.one_segment.Reads as references-one-segment
 use Rattle.references.proofs.reference_at.Reads as references-reference-at
-use Rattle.cache.proofs.empty.Reads as cache_empty
-use Rattle.cache.proofs.count.Reads as cache-count
-use Rattle.cache.proofs.get.Reads as cache_get
-use Rattle.cache.proofs.part.Reads as cache-part
+use Rattle.cache.proofs.Cache.empty.Reads as cache_empty
+use Rattle.cache.proofs.Cache.count.Reads as cache-count
+use Rattle.cache.proofs.Cache.is_filled.Reads as cache_is-filled
+use Rattle.cache.proofs.Cache.mark.Reads as cache_mark
+use Rattle.cache.proofs.Cache.get.Reads as cache_get
+use Rattle.cache.proofs.Cache.part.Reads as cache-part
 use Rattle.header.proofs.read.Reads as header_read
 use Rattle.header.proofs.names.Reads as header-names
 use Rattle.positions.proofs.get.Reads as positions_get
@@ -96,8 +105,8 @@ module _ {L : Type 0} {A R S : L → Type 0} (Promise : (κ : L) → A κ → R 
   abbrev Answer : Type 0
   Answer = (κ : L) (a : A κ) (x y : R κ) (s t : S κ) → Promise κ a x s → Promise κ a y t → x ≡ y
 
-  -- the answer is a part of what was lent, and its bytes are the same
-  abbrev Part : ((κ : L) → R κ → List ℕ) → Type 0
+  -- the answer is a part of what was lent, and its bytes, or segments, are the same
+  abbrev Part : {X : Type 0} → ((κ : L) → R κ → List X) → Type 0
   Part bytes = (κ : L) (a : A κ) (x y : R κ) (s t : S κ) → Promise κ a x s → Promise κ a y t → bytes κ x ≡ bytes κ y
 
   -- the answers are the same, and so is what they leave
@@ -122,6 +131,8 @@ module _ {L : Type 0} {A R S : L → Type 0} (Promise : (κ : L) → A κ → R 
   Told tells left = (κ : L) (a : A κ) (x y : R κ) (s t : S κ) → Promise κ a x s → Promise κ a y t → ((k : ℕ) → tells κ x k ≡ tells κ y k) × (left κ s ≡ left κ t)
 
 pub record Determined : Type 0 where
+  pub numbers_number : Answer numbers_number.Post
+  pub numbers_extra : Answer numbers_extra.Post
   pub fields-has : Answer fields-has.Post
   pub fields-be-u8 : Answer fields-be-u8.Post
   pub fields-be-u16 : Answer fields-be-u16.Post
@@ -142,13 +153,16 @@ pub record Determined : Type 0 where
   pub rows_name : Answer rows_name.Post
   pub shortcut_end-at : Answer shortcut_end-at.Post
   pub reading_kind_number : Answer reading_kind_number.Post
-  pub reading_refusal : Answer reading_refusal.Post
+  pub reading_empty : Answer reading_empty.Post
+  pub reading_as-slice : Part reading_as-slice.Post (λ κ r. r.now)
+  pub reading_refused : Answer reading_refused.Post
   pub reading_is-atom : Answer reading_is-atom.Post
   pub reading_is_natural : Answer reading_is_natural.Post
   pub reading_starts : Answer reading_starts.Post
   pub reading_plainly : Answer reading_plainly.Post
   pub terms_read : Answer terms_read.Post
   pub heads_head : Answer heads_head.Post
+  pub heads_run : Answer heads_run.Post
   pub heads_part : Part heads_part.Post (λ κ r. r.now)
   pub headwords_words : Answer headwords_words.Post
   pub headwords_place : Answer headwords_place.Post
@@ -167,18 +181,20 @@ pub record Determined : Type 0 where
   pub references-reference-at : Answer references-reference-at.Post
   pub cache_empty : Answer cache_empty.Post
   pub cache-count : Answer cache-count.Post
+  pub cache_is-filled : Answer cache_is-filled.Post
+  pub cache_mark : Leaves cache_mark.Post ((λ κ s. s.0.now.filled) ∷ [])
   pub cache_get : Answer cache_get.Post
   pub cache-part : Part cache-part.Post (λ κ r. r.now)
   -- its third parameter is written to
   pub header_read : Both header_read.Post (λ κ s. s.1.1.0.now)
-  -- its sixth
-  pub header-names : Both header-names.Post (λ κ s. s.1.1.1.1.1.0.now)
+  -- its fourth
+  pub header-names : Both header-names.Post (λ κ s. s.1.1.1.0.now)
   pub positions_get : Answer positions_get.Post
   pub positions_part : Part positions_part.Post (λ κ r. r.now)
   pub positions_get_at : Answer positions_get_at.Post
   pub positions_part-at : Part positions_part-at.Post (λ κ r. r.now)
-  -- every bit of its four words, and its sixth parameter, which is written to
-  pub positions_note : Told positions_note.Post (λ κ r. bit r) (λ κ s. s.1.1.1.1.1.0.now)
+  -- every bit of its four words, and its fourth parameter, which is written to
+  pub positions_note : Told positions_note.Post (λ κ r. bit r) (λ κ s. s.1.1.1.0.now)
   -- the store, the run of positions and the tape are written to
   pub message_read : All message_read.Post ((λ κ s. s.1.1.1.0.now) ∷ (λ κ s. s.1.1.1.1.0.now) ∷ (λ κ s. s.1.1.1.1.1.0.now) ∷ [])
   pub fragments_first : Answer fragments_first.Post
@@ -231,15 +247,17 @@ one_message x y e f = rw (e, f)
 
 pub determined : Determined
 determined = record {
+  numbers_number = λ κ a x y s t p q. equal p q;
+  numbers_extra = λ κ a x y s t p q. equal p q;
   fields-has = λ κ a x y s t p q. equal p q;
   fields-be-u8 = λ κ a x y s t p q. equal p q;
   fields-be-u16 = λ κ a x y s t p q. equal p q;
   fields-be-u32 = λ κ a x y s t p q. equal p q;
   fields-be-u64 = λ κ a x y s t p q. equal p q;
   fields-be-i32 = λ κ a x y s t p q. equal p q;
-  fields-u8-at = λ κ a x y s t p q. equal p.0 q.0;
-  fields-u16-at = λ κ a x y s t p q. equal p.0 q.0;
-  fields-u32-at = λ κ a x y s t p q. equal p.0 q.0;
+  fields-u8-at = λ κ a x y s t p q. equal p q;
+  fields-u16-at = λ κ a x y s t p q. equal p q;
+  fields-u32-at = λ κ a x y s t p q. equal p q;
   fields-u64-at = λ κ a x y s t p q. equal p q;
   fields-i32-at = λ κ a x y s t p q. equal p q;
   utf8_good = λ κ a x y s t p q. equal p q;
@@ -250,30 +268,35 @@ determined = record {
   rows_count = λ κ a x y s t p q. equal p q;
   rows_name = λ κ a x y s t p q. equal p q;
   shortcut_end-at = λ κ a x y s t p q. equal p q;
-  reading_kind_number = λ κ a x y s t p q. equal p.0 q.0;
-  reading_refusal = λ κ a x y s t p q. equal p q;
+  reading_kind_number = λ κ a x y s t p q. equal p q;
+  reading_empty = λ κ a x y s t p q. equal p q;
+  reading_as-slice = λ κ a x y s t p q. equal p q;
+  reading_refused = λ κ a x y s t p q. told_alike (equal p q);
   reading_is-atom = λ κ a x y s t p q. equal p q;
   reading_is_natural = λ κ a x y s t p q. equal p q;
   reading_starts = λ κ a x y s t p q. equal p q;
   reading_plainly = λ κ a x y s t p q. equal p q;
-  terms_read = λ κ a x y s t p q. equal p q;
+  terms_read = λ κ a x y s t p q. told_alike (equal p q);
   heads_head = λ κ a x y s t p q. equal p q;
+  heads_run = λ κ a x y s t p q. equal p q;
   heads_part = λ κ a x y s t p q. equal p q;
   headwords_words = λ κ a x y s t p q. equal p q;
   headwords_place = λ κ a x y s t p q. equal p q;
   layouts_shape_at = λ κ a x y s t p q. equal p q;
   layouts_short-at = λ κ a x y s t p q. equal p q;
   layouts_inner-at = λ κ a x y s t p q. equal p q;
-  tape_read = λ κ a x y s t p q. tape.determined (record_sure _ _) p q;
-  tape_behind = λ κ a x y s t p q. tape.determined tt p q;
-  lookup_find-name = λ κ a x y s t p q. one_answer p q;
-  lookup_find-number = λ κ a x y s t p q. one_answer p q;
+  tape_read = λ κ a x y s t p q. let (e, f) = tape.determined (record_sure _ _) p q in (told_alike e, f);
+  tape_behind = λ κ a x y s t p q. let (e, f) = tape.determined tt p q in (told_alike e, f);
+  lookup_find-name = λ κ a x y s t p q. told_alike (one_answer p q);
+  lookup_find-number = λ κ a x y s t p q. told_alike (one_answer p q);
   references-start = λ κ a x y s t p q. equal p q;
   references-is_new = λ κ a x y s t p q. equal p q;
   references-one-segment = λ κ a x y s t p q. equal p q;
   references-reference-at = λ κ a x y s t p q. equal p q;
   cache_empty = λ κ a x y s t p q. equal p q;
   cache-count = λ κ a x y s t p q. equal p q;
+  cache_is-filled = λ κ a x y s t p q. equal p q;
+  cache_mark = λ κ a x y s t p q. ap (λ (c : Cache). c.filled) (equal p q);
   cache_get = λ κ a x y s t p q. equal p q;
   cache-part = λ κ a x y s t p q. equal p q;
   header_read = λ κ a x y s t p q. (equal p.0 q.0, equal p.1 q.1);
@@ -285,7 +308,7 @@ determined = record {
   positions_note = λ κ a x y s t p q. (λ k. equal (p.1.1 [] k) (q.1.1 [] k), equal p.0 q.0);
   message_read = λ κ a x y s t p q.
       let (e, f) = tape.determined (message_sure _ _ _ _) p.0 q.0 in
-      (one_message x y e (equal p.1.0 q.1.0), (equal p.1.1.0 q.1.1.0, (equal p.1.1.1 q.1.1.1, f)));
+      (one_message x y (told_alike e) (equal p.1.0 q.1.0), (equal p.1.1.0 q.1.1.0, (equal p.1.1.1 q.1.1.1, f)));
   fragments_first = λ κ a x y s t p q. equal p q;
   fragments_next = λ κ a x y s t p q. equal p q;
   measure_needed = λ κ a x y s t p q. equal p q;

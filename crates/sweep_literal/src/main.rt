@@ -7,285 +7,178 @@
 
 #![tactic(auto)]
 
-ghost use Rattle.std.specs.Prelude.{◌≡◌, ◌≤◌, ◌<◌, length};
+ghost use Rattle.std.specs.Prelude.{IfOk, ◌≡◌, ◌≤◌, ◌<◌, length};
 
 use print::Out;
+use std::fmt;
+use std::fmt::Write;
 use std::process::ExitCode;
+use sweep::Runs;
 
 fn main(rt: HostRuntime) -> ExitCode {
     let mut room = [0u8; 4096];
     let mut out = Out::new(&mut room, rt.stdout(), rt.stderr());
-    let mut at = sweep::text(&mut out, 0, b"texts\n");
-    let count = all_texts(&mut out, &mut at);
-    at = sweep::line(&mut out, at, b"texts=", count);
-    at = sweep::text(&mut out, at, b"words\n");
-    let tried = all_words(&mut out, &mut at);
-    sweep::line(&mut out, at, b"words=", tried);
-    print::status(&out)
+    // an output that fails says so itself
+    let _ = sections(&mut out);
+    out.status()
 }
 
-// Whether a text without its trailing zero bytes is a number text: 1 where it is, and 0.
-fn judged(s: &[u8]) -> u8 {
+fn sections(out: &mut Out<'_>) -> fmt::Result {
+    writeln!(out, "texts")?;
+    let count = all_texts(out)?;
+    writeln!(out, "texts={count}")?;
+    writeln!(out, "words")?;
+    let tried = all_words(out)?;
+    writeln!(out, "words={tried}")?;
+    out.flush()
+}
+
+// Whether a text without its trailing zero bytes is a number text.
+fn judged(s: &[u8]) -> bool {
     let n = literal::trim(s);
-    literal::literal(&s[..n]) as u8
+    literal::literal(&s[..n])
 }
 
-// The texts of zero to five letters. Answers how many there were, as every function below does that tries some; whether the
-// output has failed is lent.
-fn all_texts(out: &mut Out<'_>, at: &mut usize) -> u64 {
-    let mut count = texts(0, 1, out, at);
-    count += texts(1, 11, out, at);
-    count += texts(2, 121, out, at);
-    count += texts(3, 1331, out, at);
-    count += texts(4, 14641, out, at);
-    count += texts(5, 161051, out, at);
-    count
+// The texts of zero to five letters, of which there are eleven. Answers how many there were.
+fn all_texts(out: &mut Out<'_>) -> Result<usize, fmt::Error> {
+    let mut count = texts(&mut [], 1, out)?;
+    count += texts(&mut [0], 11, out)?;
+    count += texts(&mut [0; 2], 121, out)?;
+    count += texts(&mut [0; 3], 1331, out)?;
+    count += texts(&mut [0; 4], 14641, out)?;
+    count += texts(&mut [0; 5], 161051, out)?;
+    Ok(count)
 }
 
-// The texts of n letters, of which there are eleven: so many numbers spell them.
-fn texts(n: usize, numbers: usize, out: &mut Out<'_>, at: &mut usize) -> u64
-    requires { n ≤ 5 }
-    ensures { result ≤ numbers }
+// Prints the accepted ones of the texts as long as this one: so many numbers spell them.
+fn texts(text: &mut [u8], numbers: usize, out: &mut Out<'_>) -> Result<usize, fmt::Error>
+    ensures { IfOk result (λ n. n ≡ numbers) }
 {
-    let mut text = [0u8; 5];
-    print_accepted(&mut text[..n], b"01.eE+-inf\0", numbers, out, at)
-}
-
-// Prints the accepted ones of the texts as long as this one.
-fn print_accepted(
-    text: &mut [u8],
-    letters: &[u8],
-    numbers: usize,
-    out: &mut Out<'_>,
-    at: &mut usize,
-) -> u64
-    requires { 0 < length letters.now }
-    ensures { result ≤ numbers }
-{
-    let mut number = 0;
-    while number < numbers {
-        sweep::spell(text, 0, text.len(), letters, number);
-        *at = print_text(out, *at, text);
-        number += 1;
+    for number in 0..numbers {
+        sweep::spell(text, b"01.eE+-inf\0", number);
+        if judged(text) {
+            writeln!(out, "{}", Shown(text))?;
+        }
     }
-    number as u64
+    Ok(numbers)
 }
 
-// Prints an accepted text, with _ for each zero byte, and nothing of another one.
-fn print_text(out: &mut Out<'_>, at: usize, text: &[u8]) -> usize {
-    if judged(text) == 0 {
-        return at;
+// A text with _ for each zero byte.
+#[derive(Clone, Copy)]
+struct Shown<'a>(&'a [u8]);
+
+impl<'a> fmt::Display for Shown<'a> {
+    fn fmt<W: fmt::Write>(&self, f: &mut fmt::Formatter<W>) -> fmt::Result {
+        for byte in self.0 {
+            f.write_char(if *byte == 0 { '_' } else { char::from(*byte) })?;
+        }
+        Ok(())
     }
-    let mut put = at;
-    let mut i = 0;
-    while i < text.len() {
-        put = sweep::text(out, put, &[shown(text[i])]);
-        i += 1;
-    }
-    sweep::text(out, put, b"\n")
 }
 
-fn shown(byte: u8) -> u8 {
-    if byte == 0 { b'_' } else { byte }
+// The words with no sign and with both. One of three letters has 8 patterns of letter case, one of eight has 256. Answers how many texts
+// were tried.
+fn all_words(out: &mut Out<'_>) -> Result<usize, fmt::Error> {
+    let mut tried = try_word("inf", 0, 8, out)?;
+    tried += try_word("+inf", 1, 8, out)?;
+    tried += try_word("-inf", 1, 8, out)?;
+    tried += try_word("infinity", 0, 256, out)?;
+    tried += try_word("+infinity", 1, 256, out)?;
+    tried += try_word("-infinity", 1, 256, out)?;
+    tried += try_word("nan", 0, 8, out)?;
+    tried += try_word("+nan", 1, 8, out)?;
+    tried += try_word("-nan", 1, 8, out)?;
+    Ok(tried)
 }
 
-// A word of three letters has 8 patterns of letter case, one of eight letters has 256.
-fn all_words(out: &mut Out<'_>, at: &mut usize) -> u64 {
-    let mut tried = signed(b"inf", b"+inf", b"-inf", 8, out, at);
-    tried += signed(b"infinity", b"+infinity", b"-infinity", 256, out, at);
-    tried += signed(b"nan", b"+nan", b"-nan", 8, out, at);
-    tried
-}
-
-// A word with no sign and with both.
-fn signed(
-    bare: &[u8],
-    plus: &[u8],
-    minus: &[u8],
-    patterns: usize,
-    out: &mut Out<'_>,
-    at: &mut usize,
-) -> u64
-    requires { (length bare.now ≤ 9) × ((length plus.now ≤ 9) × ((length minus.now ≤ 9) × (patterns ≤ 256))) }
-    ensures { result ≤ 1800000 }
-{
-    let mut tried = word(bare, 0, patterns, out, at);
-    tried += word(plus, 1, patterns, out, at);
-    tried += word(minus, 1, patterns, out, at);
-    tried
-}
-
-// One word, of which so many bytes are signs.
-fn word(shown: &[u8], signs: usize, patterns: usize, out: &mut Out<'_>, at: &mut usize) -> u64
-    requires { (length shown.now ≤ 9) × ((signs ≤ 1) × (patterns ≤ 256)) }
-    ensures { result ≤ 600000 }
-{
-    let n = shown.len();
-    let mut text = [0u8; 9];
-    let mut row = [0u8; 256];
-    try_word(&mut text[..n], shown, signs, &mut row[..patterns], out, at)
-}
-
-// A word whole, cut, and with one byte changed. A place of the row is a pattern.
 fn try_word(
-    text: &mut [u8],
-    shown: &[u8],
-    signs: usize,
-    row: &mut [u8],
-    out: &mut Out<'_>,
-    at: &mut usize,
-) -> u64
-    requires { (length text.old ≡ length shown.now) × ((length shown.now ≤ 9) × ((signs ≤ 1) × (length row.old ≤ 256))) }
-    ensures { result ≤ 600000 }
-{
-    let mut count = cut(text, shown, signs, row, shown.len(), out, at);
-    count += cuts(text, shown, signs, row, out, at);
-    count += changes(text, shown, signs, row.len(), out, at);
-    count
-}
-
-// The word cut after each number of bytes.
-fn cuts(
-    text: &mut [u8],
-    shown: &[u8],
-    signs: usize,
-    row: &mut [u8],
-    out: &mut Out<'_>,
-    at: &mut usize,
-) -> u64
-    requires { (length text.old ≡ length shown.now) × ((length shown.now ≤ 9) × ((signs ≤ 1) × (length row.old ≤ 256))) }
-    ensures { result ≤ 2304 }
-{
-    let mut tried = 0;
-    let mut n = 0;
-    while n < shown.len() {
-        tried += cut(text, shown, signs, row, n, out, at);
-        n += 1;
-    }
-    tried
-}
-
-// The first n bytes of the word: a row over the patterns.
-fn cut(
-    text: &mut [u8],
-    shown: &[u8],
-    signs: usize,
-    row: &mut [u8],
-    n: usize,
-    out: &mut Out<'_>,
-    at: &mut usize,
-) -> u64
-    requires { (length text.old ≡ length shown.now) × ((n ≤ length shown.now) × ((signs ≤ 1) × (length row.old ≤ 256))) }
-    ensures { result ≤ 256 }
-{
-    let mut pattern = 0;
-    while pattern < row.len() {
-        write_word(text, shown, pattern << signs);
-        row[pattern] = judged(&text[..n]);
-        pattern += 1;
-    }
-    let put = print_cut(out, *at, shown, n);
-    *at = sweep::print_row(out, put, row);
-    pattern as u64
-}
-
-fn print_cut(out: &mut Out<'_>, at: usize, shown: &[u8], n: usize) -> usize {
-    let put = sweep::text(out, at, shown);
-    if n == shown.len() {
-        return sweep::text(out, put, b" whole");
-    }
-    sweep::field(out, put, b" cut ", n as u64)
-}
-
-// The word with each of its bytes changed.
-fn changes(
-    text: &mut [u8],
-    shown: &[u8],
+    shown: &'static str,
     signs: usize,
     patterns: usize,
     out: &mut Out<'_>,
-    at: &mut usize,
-) -> u64
-    requires { (length text.old ≡ length shown.now) × ((length shown.now ≤ 9) × ((signs ≤ 1) × (patterns ≤ 256))) }
-    ensures { result ≤ 589824 }
+) -> Result<usize, fmt::Error>
+    requires { (length shown.now ≤ 9) × ((signs ≤ 1) × (patterns ≤ 256)) }
+    ensures { IfOk result (λ n. n ≤ 600000) }
 {
-    let mut tried = 0;
-    let mut place = 0;
-    while place < shown.len() {
-        tried += changed(text, shown, signs, patterns, place, out, at);
-        place += 1;
+    let word = Word {
+        shown,
+        signs,
+        patterns,
+    };
+    word.cut(shown.len(), out)?;
+    for n in 0..shown.len() {
+        word.cut(n, out)?;
     }
-    tried
+    for place in 0..shown.len() {
+        word.changed(place, out)?;
+    }
+    Ok(patterns * (1 + shown.len() + 256 * shown.len()))
 }
 
-// The word with every byte at one place: a row over that byte for each pattern, printed where it differs from the row before it.
-fn changed(
-    text: &mut [u8],
-    shown: &[u8],
+// A word, how many of its bytes are signs, and in how many patterns of letter case it is tried.
+#[derive(Clone, Copy)]
+struct Word {
+    shown: &'static str,
     signs: usize,
     patterns: usize,
-    place: usize,
-    out: &mut Out<'_>,
-    at: &mut usize,
-) -> u64
-    requires { (length text.old ≡ length shown.now) × ((place < length shown.now) × ((signs ≤ 1) × (patterns ≤ 256))) }
-    ensures { result ≤ 65536 }
-{
-    let mut row = [255u8; 256];
-    let mut tried = 0;
-    let mut pattern = 0;
-    while pattern < patterns {
-        write_word(text, shown, pattern << signs);
-        let new = renewed(&mut row, text, place);
-        *at = print_changed(out, *at, new, shown, place, pattern, &row);
-        tried += row.len() as u64;
-        pattern += 1;
-    }
-    tried
+    ghost short: { (length shown.now ≤ 9) × ((signs ≤ 1) × (patterns ≤ 256)) },
 }
 
-// Fills a row with the answers over the byte at one place. Answers whether it differs from what it was.
-fn renewed(row: &mut [u8], text: &mut [u8], place: usize) -> bool
-    requires { place < length text.old }
-{
-    let mut new = false;
-    let mut i = 0;
-    while i < row.len() {
-        text[place] = (i % 256) as u8;
-        new = sweep::differs(row, i, judged(text)) | new;
-        i += 1;
+impl Word {
+    // The word's first n bytes, all of them or cut there: a row over the patterns.
+    fn cut(self, n: usize, out: &mut Out<'_>) -> fmt::Result
+        requires { n ≤ length self.shown.now }
+    {
+        let mut row = [0u8; 256];
+        let row = &mut row[..self.patterns];
+        for (pattern, answer) in row.iter_mut().enumerate() {
+            *answer = u8::from(judged(&self.cased(pattern)[..n]));
+        }
+        if n == self.shown.len() {
+            writeln!(out, "{} whole{}", self.shown, Runs(row))
+        } else {
+            writeln!(out, "{} cut {n}{}", self.shown, Runs(row))
+        }
     }
-    new
-}
 
-// Prints the row of a changed byte, if it is new.
-fn print_changed(
-    out: &mut Out<'_>,
-    at: usize,
-    new: bool,
-    shown: &[u8],
-    place: usize,
-    pattern: usize,
-    row: &[u8],
-) -> usize {
-    if !new {
-        return at;
+    // The word with every byte at one place: a row over that byte for each pattern, printed where it differs from the row before it.
+    fn changed(self, place: usize, out: &mut Out<'_>) -> fmt::Result
+        requires { place < length self.shown.now }
+    {
+        let mut row = [255u8; 256];
+        for pattern in 0..self.patterns {
+            let mut cased = self.cased(pattern);
+            let text = &mut cased[..self.shown.len()];
+            if sweep::renewed(
+                &mut row,
+                text,
+                place,
+                &sweep::every(),
+                |s| u8::from(judged(s)),
+            ) {
+                let runs = Runs(&row);
+                writeln!(
+                    out,
+                    "{} changed {place} pattern {pattern}{runs}",
+                    self.shown
+                )?;
+            }
+        }
+        Ok(())
     }
-    let mut put = sweep::text(out, at, shown);
-    put = sweep::field(out, put, b" changed ", place as u64);
-    put = sweep::field(out, put, b" pattern ", pattern as u64);
-    sweep::print_row(out, put, row)
-}
 
-// Writes a word with a letter as a capital where its bit is set, the first byte's bit worth least. The two cases differ by 32.
-fn write_word(text: &mut [u8], shown: &[u8], capitals: usize)
-    requires { length text.old ≡ length shown.now }
-{
-    let mut rest = capitals;
-    let mut i = 0;
-    while i < shown.len() {
-        text[i] = shown[i] ^ (rest % 2 * 32) as u8;
-        rest /= 2;
-        i += 1;
+    // The word with a letter as a capital where its bit of the pattern is set, the first letter's bit worth least.
+    fn cased(self, pattern: usize) -> [u8; 9] {
+        let mut text = [0; 9];
+        let mut capitals = pattern << self.signs;
+        for (byte, letter) in text.iter_mut().zip(self.shown.as_bytes()) {
+            *byte = if capitals % 2 == 0 {
+                *letter
+            } else {
+                letter.to_ascii_uppercase()
+            };
+            capitals /= 2;
+        }
+        text
     }
 }

@@ -15,7 +15,7 @@ use Rattle.numbers.specs.Numbers as number
 use Rattle.numbers.specs.Numbers.{among, Listed}
 use Rattle.numbers.specs.Allowed.{Allowed}
 use Rattle.numbers.proofs.Laws.{outcome, Shown, listed_some, listed_shown, by_test}
-use Rattle.reading.specs.declared.Answer.{Answer}
+use Rattle.reading.specs.Told.{Told}
 use Rattle.reading.specs.Answer.{refusal, read_by}
 use Rattle.reading.proofs.Answers.{read_short}
 use Rattle.reading.proofs.Bounds.{bounded}
@@ -31,11 +31,11 @@ use Rattle.tape.proofs.Reading.{whole-done}
 use Rattle.tape.proofs.Spans as spans
 
 -- a test on the way to a Done answer: what it must have said, and what is left
-passed : (x : Bool) (r o : Answer) → ¬ (r.number ≡ 0) → (cond x r o).number ≡ 0 → (x ≡ false) × ((cond x r o ≡ o) × (o.number ≡ 0))
+passed : (x : Bool) (r o : Told) → ¬ (r.number ≡ 0) → (cond x r o).number ≡ 0 → (x ≡ false) × ((cond x r o ≡ o) × (o.number ≡ 0))
 passed true r o h e = absurd (h e)
 passed false r o h e = (refl, (refl, e))
 
-taken : (x : Bool) (r o : Answer) → (o.number ≡ 0 → x ≡ true) → (cond x r o).number ≡ 0 → (x ≡ true) × ((cond x r o ≡ r) × (r.number ≡ 0))
+taken : (x : Bool) (r o : Told) → (o.number ≡ 0 → x ≡ true) → (cond x r o).number ≡ 0 → (x ≡ true) × ((cond x r o ≡ r) × (r.number ≡ 0))
 taken true r o h e = (refl, (refl, e))
 taken false r o h e = let t : false ≡ true = h e in absurd (omega (arith, ap {B = ℕ} (λ (y : Bool). cond y 1 0) t))
 
@@ -55,7 +55,7 @@ all b l from s h =
 
 -- the term from a place on
 module _ (allow : Allowed) (b : List ℕ) (from limit room : ℕ) where
-  abbrev a : Answer
+  abbrev a : Told
   a = read_by allow b from limit
 
   -- an accepted input is read, and its terms are counted
@@ -68,7 +68,7 @@ module _ (allow : Allowed) (b : List ℕ) (from limit room : ℕ) where
       rw (sym (whole-done allow b from limit room refl n (omega arith) (omega (arith, x.room)))) (n, c)
 
   -- what a Done answer says: it is the reading's, all of the input was read, and there was room
-  record Read (r : Answer) : Type 0 where
+  record Read (r : Told) : Type 0 where
     done : a.number ≡ 0
     ends : length b ≤ a.end
     fits : cell_words * a.begun ≤ room
@@ -100,14 +100,14 @@ module _ (allow : Allowed) (b : List ℕ) (from limit room : ℕ) where
 
   pub begun-is : (e : (whole_from allow b from limit room).number ≡ 0) → (whole_from allow b from limit room).begun ≡ size (sound e).tree
   unfolding sound
-  begun-is e = let r = reads e in ap (λ (x : Answer). x.begun) r.is ∙ (read_sound allow b from limit r.done).counted
+  begun-is e = let r = reads e in ap (λ (x : Told). x.begun) r.is ∙ (read_sound allow b from limit r.done).counted
 
   pub deepest-is : (e : (whole_from allow b from limit room).number ≡ 0) → (whole_from allow b from limit room).deepest ≡ depth (sound e).tree
   unfolding sound
-  deepest-is e = let r = reads e in ap (λ (x : Answer). x.deepest) r.is ∙ (read_sound allow b from limit r.done).nested
+  deepest-is e = let r = reads e in ap (λ (x : Told). x.deepest) r.is ∙ (read_sound allow b from limit r.done).nested
 
   -- what every answer has: the reading's, and a refusal behind it with its counts
-  answers : (P : Answer → Type 0) → P a → ((n o x : ℕ) → Listed n → P (refusal n o x a.begun a.deepest [])) → P (whole_from allow b from limit room)
+  answers : (P : Told → Type 0) → P a → ((n o x : ℕ) → Listed n → P (refusal n o x a.begun a.deepest [])) → P (whole_from allow b from limit room)
   unfolding whole_from ended among
   answers P k l = by_test P (eqb a.number 0) _ a (by_test P (ltb a.end (length b)) _ _ (l _ _ _ refl) (by_test P (ltb room (cell_words * a.begun)) _ a (l _ _ _ refl) k)) k
 
@@ -173,7 +173,7 @@ module _ (from : ℕ) (t : Tree) (old : List ℕ) {new : List ℕ} (e : new ≡ 
   unfolding taped
   behind-cells = rw e (drop_at (words t from 0 0) (drop (cell_words * size t) old) (cell_words * size t) (words-length t from 0 0))
 
-module _ {o : Before} {b : List ℕ} {limit : ℕ} {r : Answer} {old new : List ℕ} (sure : Sure o) (p : Promised o b limit r old new) where
+module _ {o : Before} {b : List ℕ} {limit : ℕ} {r : Told} {old new : List ℕ} (sure : Sure o) (p : Promised o b limit r old new) where
   -- "the reported count of terms begun .. at most the bytes after the first"
   pub counted : Inside o b → r.begun ≤ length b - 1
   counted i = rw p.answered (few o b limit (length old) i)
@@ -193,7 +193,7 @@ module _ {o : Before} {b : List ℕ} {limit : ℕ} {r : Answer} {old new : List 
   -- the tape of a read that was Done
   module _ (d : r.number ≡ 0) where
     is-done : (read_behind o b limit (length old)).number ≡ 0
-    is-done = ap (λ (a : Answer). a.number) (sym p.answered) ∙ d
+    is-done = ap (λ (a : Told). a.number) (sym p.answered) ∙ d
 
     -- its term
     pub opened : Opened o b limit (length old)
@@ -211,12 +211,12 @@ module _ {o : Before} {b : List ℕ} {limit : ℕ} {r : Answer} {old new : List 
     -- as many terms were begun as there are
     pub cells : r.begun ≡ size tree
     unfolding opened
-    cells = ap (λ (a : Answer). a.begun) p.answered ∙ (done-opened o b limit (length old) sure is-done).1.0
+    cells = ap (λ (a : Told). a.begun) p.answered ∙ (done-opened o b limit (length old) sure is-done).1.0
 
     -- the deepest nesting is the term's
     pub deepest : r.deepest ≡ depth tree
     unfolding opened
-    deepest = ap (λ (a : Answer). a.deepest) p.answered ∙ (done-opened o b limit (length old) sure is-done).1.1.0
+    deepest = ap (λ (a : Told). a.deepest) p.answered ∙ (done-opened o b limit (length old) sure is-done).1.1.0
 
     -- it has no more cells than there is room for
     pub in_room : cell_words * r.begun ≤ length old
@@ -244,7 +244,7 @@ module _ {o : Before} {b : List ℕ} {limit : ℕ} {r : Answer} {old new : List 
         (h, omega (arith, k, ap (length {A = ℕ}) opened.accepted.is, length-append (take from b) (bytes tree), length-take from b, opened.stands.inside))
 
 -- two answers that the promise allows are one, with what they leave
-pub determined : {o : Before} {b : List ℕ} {limit : ℕ} {r s : Answer} {old new other : List ℕ} → Sure o → Promised o b limit r old new → Promised o b limit s old other → (r ≡ s) × (new ≡ other)
+pub determined : {o : Before} {b : List ℕ} {limit : ℕ} {r s : Told} {old new other : List ℕ} → Sure o → Promised o b limit r old new → Promised o b limit s old other → (r ≡ s) × (new ≡ other)
 determined {o} {b} {limit} {r} {s} {old} {new} {other} sure p q = (e, go (eqb r.number 0) refl)
   where
     e : r ≡ s
@@ -254,7 +254,7 @@ determined {o} {b} {limit} {r} {s} {old} {new} {other} sure p q = (e, go (eqb r.
     go true h =
         let d = eqb-true r.number 0 h in
         let w = opened sure p d in
-        wrote sure p d ∙ sym (q.done (ap (λ (a : Answer). a.number) (sym e) ∙ d) w.from w.allow w.is w.accepted.tree w.accepted.laid w.stands)
+        wrote sure p d ∙ sym (q.done (ap (λ (a : Told). a.number) (sym e) ∙ d) w.from w.allow w.is w.accepted.tree w.accepted.laid w.stands)
     go false h =
         let n = eqb-false r.number 0 h in
-        p.refused n ∙ sym (q.refused (λ z. n (ap (λ (a : Answer). a.number) e ∙ z)))
+        p.refused n ∙ sym (q.refused (λ z. n (ap (λ (a : Told). a.number) e ∙ z)))

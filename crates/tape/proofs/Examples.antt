@@ -13,7 +13,7 @@ use Rattle.fields.specs.Be.{be}
 use Rattle.utf8.specs.Unicode.{scalar, encode}
 use Rattle.utf8.specs.Good as good
 use Rattle.numbers.specs.Numbers as number
-use Rattle.reading.specs.declared.Answer.{Answer}
+use Rattle.reading.specs.Told.{Told}
 use Rattle.reading.specs.declared.Kind.TheVariants as kind
 use Rattle.reading.specs.declared.Segment.{Segment}
 use Rattle.reading.specs.Reading.{State, Result, done, no}
@@ -32,15 +32,15 @@ use Rattle.tape.proofs.Reading.{before-term, behind-term, whole-refused, whole_t
 use Rattle.tape.proofs.Records.{written}
 
 -- what a promised call answers and leaves, by what the reading behind byte 131 comes to
-module _ {l : List ℕ} {r : Answer} {old new : List ℕ} (short : suc (length l) ≤ cap.input) (p : Recorded (131 ∷ l) 64 r old new) where
-  whole : {a : Answer} → a ≡ whole_from plain (131 ∷ l) 1 64 (length old) → r ≡ a
+module _ {l : List ℕ} {r : Told} {old new : List ℕ} (short : suc (length l) ≤ cap.input) (p : Recorded (131 ∷ l) 64 r old new) where
+  whole : {a : Told} → a ≡ whole_from plain (131 ∷ l) 1 64 (length old) → r ≡ a
   whole e = p.answered ∙ sym (behind-term (131 ∷ l) 64 (length old) (before-term (131 ∷ l) 64 (omega arith, (omega arith, short)) (λ z. omega arith) refl)) ∙ sym e
 
   reads : {o : Result} → behind (131 ∷ l) 64 ≡ o → answer o ≡ read_at (131 ∷ l) 1 64
   unfolding behind
   reads {o} e = sym (answers.read-on plain (131 ∷ l) 1 64 o (λ z. omega arith) (omega arith) short (sym e))
 
-  left_alone : {a : Answer} → ¬ (a.number ≡ 0) → a ≡ whole_from plain (131 ∷ l) 1 64 (length old) → (r ≡ a) × (new ≡ old)
+  left_alone : {a : Told} → ¬ (a.number ≡ 0) → a ≡ whole_from plain (131 ∷ l) 1 64 (length old) → (r ≡ a) × (new ≡ old)
   left_alone h e = (whole e, p.refused (rw (whole e) h))
 
   refused : {n x : ℕ} {s : State} {way : List Segment} → behind (131 ∷ l) 64 ≡ no n x s way → ¬ (n ≡ 0) → (r ≡ answer (no n x s way)) × (new ≡ old)
@@ -70,7 +70,7 @@ unfolding be good.spelled
 named x h e = row (layout.small_atom (1 ∷ []) (x ∷ []) exact (record { chars = x ∷ []; scalars = good.more h good.none; is = rw e }))
 
 -- 131 106, with room for its cell
-module _ {r : Answer} {old new : List ℕ} (h : 5 ≤ length old) (p : Recorded (131 ∷ 106 ∷ []) 64 r old new) where
+module _ {r : Told} {old new : List ℕ} (h : 5 ≤ length old) (p : Recorded (131 ∷ 106 ∷ []) 64 r old new) where
   nil-done : r ≡ answer (done (stands 2 1 1 1))
   nil-done = goes (omega arith) p nil (omega arith) h
 
@@ -83,7 +83,7 @@ tuple : behind (131 ∷ 104 ∷ 1 ∷ 106 ∷ []) 64 ≡ done (stands 4 3 2 2)
 unfolding behind
 tuple = refl
 
-module _ {r : Answer} {old new : List ℕ} (h : 10 ≤ length old) (p : Recorded (131 ∷ 104 ∷ 1 ∷ 106 ∷ []) 64 r old new) where
+module _ {r : Told} {old new : List ℕ} (h : 10 ≤ length old) (p : Recorded (131 ∷ 104 ∷ 1 ∷ 106 ∷ []) 64 r old new) where
   tuple-done : r ≡ answer (done (stands 4 3 2 2))
   tuple-done = goes (omega arith) p tuple (omega arith) h
 
@@ -94,33 +94,33 @@ module _ {r : Answer} {old new : List ℕ} (h : 10 ≤ length old) (p : Recorded
       (small_tuple exact (one_more (row layout.nil) no_more)) refl
 
 -- "a reader that refuses everything": where there is room, 131 106 isn't refused
-pub refuses_everything : {r : Answer} {old new : List ℕ} → 5 ≤ length old → ¬ (r.number ≡ 0) → ¬ Recorded (131 ∷ 106 ∷ []) 64 r old new
+pub refuses_everything : {r : Told} {old new : List ℕ} → 5 ≤ length old → ¬ (r.number ≡ 0) → ¬ Recorded (131 ∷ 106 ∷ []) 64 r old new
 unfolding answer
 refuses_everything h n p = n (rw (nil-done h p) refl)
 
 -- "or says Done with one fixed tape": no tape is that of 131 106 and of 131 104 1 106
-pub one-fixed_tape : {r s : Answer} {old tape : List ℕ} → 10 ≤ length old → Recorded (131 ∷ 106 ∷ []) 64 r old tape →
+pub one-fixed_tape : {r s : Told} {old tape : List ℕ} → 10 ≤ length old → Recorded (131 ∷ 106 ∷ []) 64 r old tape →
     ¬ Recorded (131 ∷ 104 ∷ 1 ∷ 106 ∷ []) 64 s old tape
 one-fixed_tape h p q = omega (arith, ap (λ (t : List ℕ). tag_at t 0) (sym (nil_tape (omega arith) p) ∙ tuple_tape h q))
 
 -- "one that returns Done and writes no cell": the tape of 131 106 isn't left as it was
-pub no_cell : {r : Answer} {old : List ℕ} → 5 ≤ length old → ¬ (tag_at old 0 ≡ 106) → ¬ Recorded (131 ∷ 106 ∷ []) 64 r old old
+pub no_cell : {r : Told} {old : List ℕ} → 5 ≤ length old → ¬ (tag_at old 0 ≡ 106) → ¬ Recorded (131 ∷ 106 ∷ []) 64 r old old
 no_cell h n p = n (ap (λ (t : List ℕ). tag_at t 0) (nil_tape h p))
 
 -- "or the root only": the second cell of 131 104 1 106 isn't left as it was
-pub root-only : {r : Answer} {old new : List ℕ} → 10 ≤ length old → ¬ (tag_at old 1 ≡ 106) → tag_at new 1 ≡ tag_at old 1 →
+pub root-only : {r : Told} {old new : List ℕ} → 10 ≤ length old → ¬ (tag_at old 1 ≡ 106) → tag_at new 1 ≡ tag_at old 1 →
     ¬ Recorded (131 ∷ 104 ∷ 1 ∷ 106 ∷ []) 64 r old new
 root-only h n e p = n (sym e ∙ ap (λ (t : List ℕ). tag_at t 1) (tuple_tape h p))
 
 -- "a count of terms taken from the input's length": 131 119 1 97 and 131 104 1 106 have four bytes each, and one term and two
-pub count_from_length : (f : ℕ → ℕ) {r s : Answer} {old new other : List ℕ} → 10 ≤ length old →
+pub count_from_length : (f : ℕ → ℕ) {r s : Told} {old new other : List ℕ} → 10 ≤ length old →
     Recorded (131 ∷ 119 ∷ 1 ∷ 97 ∷ []) 64 r old new → r.begun ≡ f 4 → Recorded (131 ∷ 104 ∷ 1 ∷ 106 ∷ []) 64 s old other → ¬ (s.begun ≡ f 4)
 unfolding answer behind
 count_from_length f h p d q e =
-    omega (arith, d, e, ap (λ (a : Answer). a.begun) (goes (omega arith) p refl (omega arith) (omega arith)), ap (λ (a : Answer). a.begun) (tuple-done h q))
+    omega (arith, d, e, ap (λ (a : Told). a.begun) (goes (omega arith) p refl (omega arith) (omega arith)), ap (λ (a : Told). a.begun) (tuple-done h q))
 
 -- "Stopping quietly at the last cell": 131 104 1 106 with less than two cells lent is Room, extra 2, offset 0, and nothing is written
-pub quiet_stop : {r : Answer} {old new : List ℕ} → length old < 10 → Recorded (131 ∷ 104 ∷ 1 ∷ 106 ∷ []) 64 r old new →
+pub quiet_stop : {r : Told} {old new : List ℕ} → length old < 10 → Recorded (131 ∷ 104 ∷ 1 ∷ 106 ∷ []) 64 r old new →
     (r ≡ refusal number.Room 0 2 2 2 []) × (new ≡ old)
 quiet_stop h p = no_room (omega arith) p tuple (omega arith) h
 
@@ -134,7 +134,7 @@ one-laid l = list {m = 1} exact (omega arith) refl (one_more (row (layout.small_
 
 -- "Folding a list whose tail is a list into one": 131 108 0 0 0 1 97 1 108 0 0 0 1 97 2 106 has five cells, of which the third is the tail's,
 -- and the fourth and fifth are the tail's own children
-pub folded_tail : {r : Answer} {old new : List ℕ} → 25 ≤ length old →
+pub folded_tail : {r : Told} {old new : List ℕ} → 25 ≤ length old →
     Recorded (131 ∷ 108 ∷ 0 ∷ 0 ∷ 0 ∷ 1 ∷ 97 ∷ 1 ∷ 108 ∷ 0 ∷ 0 ∷ 0 ∷ 1 ∷ 97 ∷ 2 ∷ 106 ∷ []) 64 r old new →
     (r.begun ≡ 5)
     × (new ≡ 108 ∷ 1 ∷ 16 ∷ 0 ∷ 5 ∷ 97 ∷ 6 ∷ 8 ∷ 0 ∷ 1 ∷ 108 ∷ 8 ∷ 16 ∷ 0 ∷ 3 ∷ 97 ∷ 13 ∷ 15 ∷ 2 ∷ 1 ∷ 106 ∷ 15 ∷ 16 ∷ 2 ∷ 1 ∷ drop 25 old)
@@ -145,18 +145,18 @@ folded_tail {r} h p =
 
 -- "Only a Done read writes the tape": a reader that writes cells before it knows of the refusal. 131 104 2 97 5 is Eof at 5, path tuple:1,
 -- and nothing is written, whatever is lent
-pub early_tape : {r : Answer} {old new : List ℕ} → Recorded (131 ∷ 104 ∷ 2 ∷ 97 ∷ 5 ∷ []) 64 r old new →
+pub early_tape : {r : Told} {old new : List ℕ} → Recorded (131 ∷ 104 ∷ 2 ∷ 97 ∷ 5 ∷ []) 64 r old new →
     (r ≡ refusal number.Eof 5 0 2 2 (segment kind.Tuple 1 ∷ [])) × (new ≡ old)
 unfolding answer
 early_tape p = refused (omega arith) p second_missing (λ z. omega arith)
 
 -- ".. then Trailing .., then Room": a reader that asks for room first. 131 106 0 is Trailing, extra 1, offset 2, though nothing is lent
-pub room-first : {r : Answer} {new : List ℕ} → Recorded (131 ∷ 106 ∷ 0 ∷ []) 64 r [] new → (r ≡ refusal number.Trailing 2 1 1 1 []) × (new ≡ [])
+pub room-first : {r : Told} {new : List ℕ} → Recorded (131 ∷ 106 ∷ 0 ∷ []) 64 r [] new → (r ≡ refusal number.Trailing 2 1 1 1 []) × (new ≡ [])
 unfolding behind
 room-first p = trailing (omega arith) p refl (omega arith)
 
 -- 131 104 2 97 5 119 1 97, which document 01 prints
-pub printed : {r : Answer} {old new : List ℕ} → 15 ≤ length old → Recorded (131 ∷ 104 ∷ 2 ∷ 97 ∷ 5 ∷ 119 ∷ 1 ∷ 97 ∷ []) 64 r old new →
+pub printed : {r : Told} {old new : List ℕ} → 15 ≤ length old → Recorded (131 ∷ 104 ∷ 2 ∷ 97 ∷ 5 ∷ 119 ∷ 1 ∷ 97 ∷ []) 64 r old new →
     (r.number ≡ 0) × (r.begun ≡ 3) × (r.deepest ≡ 2)
     × (new ≡ 104 ∷ 1 ∷ 8 ∷ 0 ∷ 3 ∷ 97 ∷ 3 ∷ 5 ∷ 0 ∷ 1 ∷ 119 ∷ 5 ∷ 8 ∷ 0 ∷ 1 ∷ drop 15 old)
 unfolding answer behind scalar encode be bytes bytes_all count size sizes words nodes nodes_all flat_map taped

@@ -7,6 +7,7 @@ use Prim.Native.Nat.{ℕ, suc, ◌+◌, ◌-◌, ◌*◌, ◌≤◌, ◌<◌}
 use native.Mathlib.Omega.{arith}
 use mathlib.Core.Path.{◌≡◌, refl, ap, sym, ◌∙◌}
 use mathlib.Core.List.{List, [], ◌∷◌, ◌++◌, append-nil}
+use Rattle.std.specs.Prelude.{Some}
 use lib.ListN.{length, get_or, length-append}
 use lib.Seq.{length-sets}
 use Rattle.numbers.specs.Caps as cap
@@ -18,9 +19,9 @@ use Rattle.layouts.specs.Inner.Shape.{ends, shape_at, shape_by, shape_of, short_
 use Rattle.layouts.proofs.Stands.{left, right, byte, behind}
 use Rattle.layouts.proofs.Shapes.{by_tag_lem, shape_is, kids_laid, one-leaf, short-is, unique}
 use Rattle.tape.specs.Cells.{cell_words, words}
-use Rattle.tape.specs.Inner.Fill.{cell, words_all, opened, closed, lay, Good, Filled}
+use Rattle.tape.specs.Inner.Fill.{cell, words_all, closed, lay, Good, Filled}
 use Rattle.tape.proofs.Words.{words-node, words_all-none, words_all-more, words-length}
-use Rattle.tape.proofs.Stores.{sets_append, cell-closed, length-closed, length-opened, end_read, size_read, parent_read, before-laid, written_over, closed_again}
+use Rattle.tape.proofs.Stores.{sets_append, cell-closed, end_read, size_read, parent_read, before-laid, written_over}
 
 -- each term has a byte of its own
 
@@ -188,40 +189,39 @@ module _ {allow : Allowed} {b final : List ℕ} where
           }
 
   -- a term's cell while it is open: its children are owed, and behind them what its parent has left
-  module _ {up at cell n : ℕ} {mid new : List ℕ} {g : Shape} (tape : List ℕ) (h : length b ≤ cap.input) where
-    pub begins : (x : Tree) → Laid allow x → Stands b at (bytes x) → (cell + size x) * cell_words ≤ length tape → cell ≤ at →
-        g ≡ shape_at b at → mid ≡ opened tape cell (get_or b at 0) at up → new ≡ closed mid cell g.back n →
-        (cell ≡ 0 → lay tape cell (words x at up cell) ≡ final) →
-        (¬ (cell ≡ 0) → up < cell) →
-        (¬ (cell ≡ 0) → Owed allow b final up n (at + length (bytes x)) (cell + size x) (lay tape cell (words x at up cell))) →
-        Owed allow b final cell g.kids g.from (cell + 1) new
+  module _ {up at i n : ℕ} {new : List ℕ} {g : Shape} (tape : List ℕ) (h : length b ≤ cap.input) where
+    pub begins : (x : Tree) → Laid allow x → Stands b at (bytes x) → (i + size x) * cell_words ≤ length tape → i ≤ at →
+        g ≡ shape_at b at → new ≡ lay tape i (cell (get_or b at 0) at g.back up n) →
+        (i ≡ 0 → lay tape i (words x at up i) ≡ final) →
+        (¬ (i ≡ 0) → up < i) →
+        (¬ (i ≡ 0) → Owed allow b final up n (at + length (bytes x)) (i + size x) (lay tape i (words x at up i))) →
+        Owed allow b final i g.kids g.from (i + 1) new
     unfolding bytes size
-    begins (node tag front ks back) l s f k e o v at-root below inside =
+    begins (node tag front ks back) l s f k e v at-root below inside =
         let x = node tag front ks back in
         let q : g ≡ shape_of x at = e ∙ shape_is b at x h l s in
         let from : ℕ = at + 1 + length front in
-        let now = closed (opened tape cell tag at up) cell (length back) n in
-        let d : now ≡ new = sym (v ∙ rw (o, byte b at tag _ s, q)) in
+        let now = lay tape i (cell tag at (length back) up n) in
+        let d : now ≡ new = sym (v ∙ rw (byte b at tag _ s, q)) in
         let len = length-append front (bytes_all ks ++ back) in
         let len' = length-append (bytes_all ks) back in
-        let open-length = length-opened tape cell tag at up in
-        let i = s.inside in
-        let m : bytes_behind now cell ≡ length back = end_read (opened tape cell tag at up) cell (length back) n (omega arith) in
-        let u : outer now cell ≡ up = parent_read tape cell tag at up (length back) n (omega arith) in
-        let r : rest now cell ≡ n = size_read (opened tape cell tag at up) cell (length back) n (omega arith) in
-        let ws = words_all ks from cell (cell + 1) in
-        let p : end_of now cell from ks ≡ at + length (bytes x) = omega (arith, m, len, len') in
-        let c : cell + 1 + sizes ks ≡ cell + size x = omega arith in
-        let z : cell + 1 + sizes ks - cell ≡ suc (sizes ks) = omega arith in
-        let w : tape_of now cell from (cell + 1) ks ≡ lay tape cell (words x at up cell) =
-        closed_again (opened tape cell tag at up) cell (length back) n ws _ _ ∙ rw (words-node, p, z) (cell-closed tape cell tag at (at + length (bytes x)) up (suc (sizes ks)) ws) in
-        let here : Here allow b cell (count ks) from (cell + 1) now ks =
+        let in_tape = s.inside in
+        let m : bytes_behind now i ≡ length back = end_read tape i tag at up (length back) n (omega arith) in
+        let u : outer now i ≡ up = parent_read tape i tag at up (length back) n (omega arith) in
+        let r : rest now i ≡ n = size_read tape i tag at up (length back) n (omega arith) in
+        let ws = words_all ks from i (i + 1) in
+        let p : end_of now i from ks ≡ at + length (bytes x) = omega (arith, m, len, len') in
+        let c : i + 1 + sizes ks ≡ i + size x = omega arith in
+        let z : i + 1 + sizes ks - i ≡ suc (sizes ks) = omega arith in
+        let w : tape_of now i from (i + 1) ks ≡ lay tape i (words x at up i) =
+        cell-closed tape i tag at up (length back) n _ _ ws ∙ rw (words-node, p, z) refl in
+        let here : Here allow b i (count ks) from (i + 1) now ks =
         record {
           laid = kids_laid l;
           counted = refl;
           stands = left b from (bytes_all ks) back (right b (at + 1) front (bytes_all ks ++ back) (behind b at tag (front ++ (bytes_all ks ++ back)) s));
           inside = omega (arith, p);
-          fits = omega (arith, length-closed (opened tape cell tag at up) cell (length back) n);
+          fits = omega (arith, length-sets tape (i * cell_words) (cell tag at (length back) up n));
           below = omega arith;
           later = omega arith;
         } in
@@ -229,13 +229,13 @@ module _ {allow : Allowed} {b final : List ℕ} where
         (owed ks here (λ y. w ∙ at-root y) (λ y. rw u (below y)) (λ y. moved (sym u) (sym r) (sym p) (sym c) (sym w) (inside y)))
 
 -- the short way tells the shape
-pub short_shape : (b : List ℕ) (at : ℕ) {r : ℕ} → r ≡ short_at b at → ¬ (r ≡ 0) → ends r ≡ shape_at b at
-short_shape b at {r} e h = ap ends e ∙ sym (short-is b at (λ z. h (e ∙ z)))
+pub short_shape : (b : List ℕ) (at : ℕ) {e : ℕ} → Some e ≡ short_at b at → ends e ≡ shape_at b at
+short_shape b at e = sym (short-is b at (sym e))
 
 -- and so does the tag of a small integer
 pub small_shape : (b : List ℕ) (at : ℕ) → at < length b → length b ≤ cap.input → get_or b at 0 ≡ 97 → ends (at + 2) ≡ shape_at b at
 unfolding shape_by
-small_shape b at h l e = by_tag_lem b at 97 (h, l) e
+small_shape b at h l e = by_tag_lem b at 97 (record { within = h; short = l; is = refl }) e
 
 -- no children, no bytes behind them
 bare : {allow : Allowed} {tag : ℕ} {front back : List ℕ} → Laid allow (node tag front none back) → back ≡ []
@@ -265,13 +265,12 @@ pub there : {b : List ℕ} {start room : ℕ} → Good b start room → (start <
 there q = (omega (arith, q.stands.inside, size-bytes q.tree, size_own q.tree), omega (arith, q.fits, size_own q.tree))
 
 -- the root's cell is open: the words that are wanted lie over it, so that they are the same on the tape as it was
-module _ {b mid tape : List ℕ} {g : Shape} {start : ℕ} (old : List ℕ) (q : Good b start (length old)) (e : g ≡ shape_at b start) (o : mid ≡ opened old 0 (get_or b start 0) start 0) (v : tape ≡ closed mid 0 g.back 0) where
+module _ {b tape : List ℕ} {g : Shape} {start : ℕ} (old : List ℕ) (q : Good b start (length old)) (e : g ≡ shape_at b start) (v : tape ≡ lay old 0 (cell (get_or b start 0) start g.back 0 0)) where
   over : (t : Tree) → lay tape 0 (words t start 0 0) ≡ lay old 0 (words t start 0 0)
   over t =
       let root = cell (get_or b start 0) start g.back 0 0 in
-      let w : tape ≡ lay old 0 root = v ∙ rw o (cell-closed old 0 (get_or b start 0) start g.back 0 0 []) in
       let ws = words t start 0 0 in
-      ap (λ (z : List ℕ). lay z 0 ws) w ∙ written_over old 0 root ws (omega (arith, words-length t start 0 0, size_own t))
+      ap (λ (z : List ℕ). lay z 0 ws) v ∙ written_over old 0 root ws (omega (arith, words-length t start 0 0, size_own t))
 
   pub as_it_was : {new : List ℕ} → Filled b start tape new → Filled b start old new
   as_it_was f = record { same = λ allow t l s. f.same allow t l s ∙ over t }
@@ -286,7 +285,7 @@ module _ {b mid tape : List ℕ} {g : Shape} {start : ℕ} (old : List ℕ) (q :
         final = lay tape 0 (words q.tree start 0 0);
         is = record { same = λ allow t l s. ap (λ (x : Tree). lay tape 0 (words x start 0 0)) (unique b start q.tree t q.short q.laid l q.stands s) };
         owes =
-            begins {up = 0} {n = 0} old q.short q.tree q.laid q.stands (omega (arith, q.fits)) (omega arith) e o v
+            begins {up = 0} {n = 0} old q.short q.tree q.laid q.stands (omega (arith, q.fits)) (omega arith) e v
             (λ _. sym (over q.tree)) (λ z. absurd (z refl)) (λ z. absurd (z refl));
       }
 
@@ -297,30 +296,30 @@ module _ {start : ℕ} {b old : List ℕ} {up n at cell : ℕ} {tape : List ℕ}
   pub first : ¬ (n ≡ 0) → Child g.allow b g.final up n at cell tape
   first z = child g.short g.owes z
 
-module _ {start : ℕ} {b old : List ℕ} {up n at cell : ℕ} {tape new : List ℕ} (g : Going start b old up n at cell tape) where
+module _ {start : ℕ} {b old : List ℕ} {up n at i : ℕ} {tape new : List ℕ} (g : Going start b old up n at i tape) where
   -- a child without children is written
-  pub past : {e : ℕ} → ¬ (n ≡ 0) → ends e ≡ shape_at b at → new ≡ closed (opened tape cell (get_or b at 0) at up) cell e 1 → length new ≡ length tape →
-      Going start b old up (n - 1) e (cell + 1) new
+  pub past : {e : ℕ} → ¬ (n ≡ 0) → ends e ≡ shape_at b at → new ≡ lay tape i (cell (get_or b at 0) at e up 1) → length new ≡ length tape →
+      Going start b old up (n - 1) e (i + 1) new
   unfolding bytes size count
   past {e} z f v k =
       let x = first g z in
       record { short = g.short; allow = g.allow; kept = k ∙ g.kept; final = g.final; is = g.is; owes = go x.tree x.laid x.stands x.next }
     where
-      go : (t : Tree) → Laid g.allow t → Stands b at (bytes t) → Owed g.allow b g.final up (n - 1) (at + length (bytes t)) (cell + size t) (lay tape cell (words t at up cell)) →
-          Owed g.allow b g.final up (n - 1) e (cell + 1) new
+      go : (t : Tree) → Laid g.allow t → Stands b at (bytes t) → Owed g.allow b g.final up (n - 1) (at + length (bytes t)) (i + size t) (lay tape i (words t at up i)) →
+          Owed g.allow b g.final up (n - 1) e (i + 1) new
       go (node tag front (more t ts) back) l s o =
           let q : ends e ≡ shape_of (node tag front (more t ts) back) at = f ∙ shape_is b at (node tag front (more t ts) back) g.short l s in
           absurd (omega (arith, ap (λ (y : Shape). y.kids) q))
       go (node tag front none back) l s o =
           let q : ends e ≡ shape_of (node tag front none back) at = f ∙ shape_is b at (node tag front none back) g.short l s in
           let p : e ≡ at + length (bytes (node tag front none back)) = ap (λ (y : Shape). y.from) q ∙ rw (bare l, append-nil front) (omega arith) in
-          let w : new ≡ lay tape cell (words (node tag front none back) at up cell) = v ∙ rw (words-node, words_all-none, p, byte b at tag _ s) (cell-closed tape cell tag at _ up 1 []) in
+          let w : new ≡ lay tape i (words (node tag front none back) at up i) = v ∙ rw (words-node, words_all-none, p, byte b at tag _ s) in
           moved refl refl (sym p) (omega arith) (sym w) o
 
   -- the cell of any other is open
-  pub into : {mid : List ℕ} {s : Shape} → ¬ (n ≡ 0) → s ≡ shape_at b at → mid ≡ opened tape cell (get_or b at 0) at up → new ≡ closed mid cell s.back (n - 1) → length new ≡ length tape →
-      Going start b old cell s.kids s.from (cell + 1) new
-  into z e o v k =
+  pub into : {s : Shape} → ¬ (n ≡ 0) → s ≡ shape_at b at → new ≡ lay tape i (cell (get_or b at 0) at s.back up (n - 1)) → length new ≡ length tape →
+      Going start b old i s.kids s.from (i + 1) new
+  into z e v k =
       let x = first g z in
       record {
         short = g.short;
@@ -328,12 +327,12 @@ module _ {start : ℕ} {b old : List ℕ} {up n at cell : ℕ} {tape new : List 
         kept = k ∙ g.kept;
         final = g.final;
         is = g.is;
-        owes = begins tape g.short x.tree x.laid x.stands x.fits x.later e o v (λ y. absurd (omega (arith, x.below))) (λ _. x.below) (λ _. x.next);
+        owes = begins tape g.short x.tree x.laid x.stands x.fits x.later e v (λ y. absurd (omega (arith, x.below))) (λ _. x.below) (λ _. x.next);
       }
 
   -- a term whose children are written is closed
-  module _ (v : new ≡ closed tape up (at + bytes_behind tape up) (cell - up)) (z : n ≡ 0) where
-    pub out : ¬ (up ≡ 0) → length new ≡ length tape → (outer tape up < up) × Going start b old (outer tape up) (rest tape up) (at + bytes_behind tape up) cell new
+  module _ (v : new ≡ closed tape up (at + bytes_behind tape up) (i - up)) (z : n ≡ 0) where
+    pub out : ¬ (up ≡ 0) → length new ≡ length tape → (outer tape up < up) × Going start b old (outer tape up) (rest tape up) (at + bytes_behind tape up) i new
     out u k =
         let (a, o) = shut g.owes z u in
         (a, record { short = g.short; allow = g.allow; kept = k ∙ g.kept; final = g.final; is = g.is; owes = moved refl refl refl refl (sym v) o })

@@ -5,6 +5,7 @@ use native.Mathlib.Omega.{arith}
 use mathlib.Core.Path.{◌≡◌, refl, ap, sym, ◌∙◌}
 use mathlib.Core.List.{List, [], ◌∷◌, ◌++◌}
 use lib.ListN.{length, get_or, drop}
+use Rattle.std.specs.Prelude.{Ok, Err}
 use lib.Seq.{take-length, sets-eq}
 use mathlib.Core.Bool.{Bool, true, false, cond}
 use lib.Dec.{ltb}
@@ -12,33 +13,32 @@ use borrow.Author.Tests.{lt-ltb, le-ltb, ltb-false, eq-eqb, ne_eqb}
 use Rattle.numbers.specs.Caps as cap
 use Rattle.numbers.specs.Numbers as number
 use Rattle.numbers.specs.Allowed.{Allowed, plain}
-use Rattle.reading.specs.declared.Answer.{Answer}
-use Rattle.reading.specs.declared.Cause.{Cause}
-use Rattle.reading.specs.declared.Cause.TheVariants as cause
-use Rattle.reading.specs.declared.Start.TheVariants as start
-use Rattle.reading.specs.Answer.{number_of, refusal, starts, read_by}
+use Rattle.reading.specs.Told.{Told}
+use Rattle.numbers.specs.Refusal.{number_of, extra_of}
+use Rattle.numbers.specs.declared.Refusal.{Refusal}
+use Rattle.numbers.specs.declared.Refusal.TheVariants as why
+use Rattle.reading.specs.Answer.{refusal, starts, read_by}
+use Rattle.reading.proofs.Told.{refused_some}
 use Rattle.reading.proofs.Answers.{starts-on, read_short}
 use Rattle.layouts.specs.Tree.{Tree, Stands, bytes, size}
 use Rattle.accepts.proofs.Accepts.{read_sound}
 use Rattle.layouts.proofs.Shapes.{unique}
 use Rattle.tape.specs.Cells.{cell_words, words, taped}
-use Rattle.tape.specs.declared.Ended.{Ended}
-use Rattle.tape.specs.declared.Ended.TheVariants as ended
 use Rattle.tape.specs.Inner.Fill.{Good, lay}
-use Rattle.tape.specs.Inner.End.{ended_by, Came, Leaves}
+use Rattle.tape.specs.Inner.End.{Ended, ended_by, Came, Leaves}
 use Rattle.tape.specs.Read as read
 use Rattle.tape.specs.Read.{Before, refuses, opens, whole_from, read_behind, starts_before, version, record_before, Promised}
 use Rattle.tape.proofs.Words.{words-length}
 use Rattle.tape.proofs.Filling.{size-bytes}
 
 -- the answer by what became of a term that was read
-abbrev pub answered : Answer → Ended → Answer
-answered a ended.Done = a
-answered a (ended.No c o x) = refusal (number_of c) o x a.begun a.deepest []
+abbrev pub answered : Told → Ended → Told
+answered a (Ok x) = a
+answered a (Err (r, o)) = refusal (number_of r) o (extra_of r) a.begun a.deepest []
 
 -- what stands before a record's term, and the answer by it
 module _ (b : List ℕ) (limit : ℕ) where
-  pub before-no : {c : Cause} → starts limit (length b) ≡ start.No c → record_before b limit ≡ refuses (number_of c) 0
+  pub before-no : {r : Refusal} → starts limit (length b) ≡ Err r → record_before b limit ≡ refuses (number_of r) (extra_of r)
   unfolding record_before starts_before
   before-no e = rw e
 
@@ -70,7 +70,7 @@ module _ (b : List ℕ) (limit room : ℕ) where
   behind-term e = rw e
 
 -- the term from a place on, by its answer
-module _ (allow : Allowed) (b : List ℕ) (from limit room : ℕ) {a : Answer} (e : a ≡ read_by allow b from limit) where
+module _ (allow : Allowed) (b : List ℕ) (from limit room : ℕ) {a : Told} (e : a ≡ read_by allow b from limit) where
   pub whole-refused : ¬ (a.number ≡ 0) → a ≡ whole_from allow b from limit room
   unfolding whole_from
   whole-refused h = rw (← e, ne_eqb a.number 0 h)
@@ -95,7 +95,7 @@ module _ (allow : Allowed) (b : List ℕ) (from limit room : ℕ) {a : Answer} (
     whole-ended = rw (← e, eq-eqb a.number 0 h) (go (ltb a.end (length b)) (ltb room (cell_words * a.begun)))
       where
         go : (x y : Bool) → cond x (refusal number.Trailing a.end (length b - a.end) a.begun a.deepest []) (cond y (refusal number.Room 0 a.begun a.begun a.deepest []) a) ≡
-            answered a (cond x (ended.No cause.Trailing a.end (length b - a.end)) (cond y (ended.No cause.Room 0 a.begun) ended.Done))
+            answered a (cond x (Err (why.Trailing (length b - a.end), a.end)) (cond y (Err (why.Room a.begun, 0)) (Ok tt)))
         go true y = refl
         go false true = refl
         go false false = refl
@@ -103,7 +103,7 @@ module _ (allow : Allowed) (b : List ℕ) (from limit room : ℕ) {a : Answer} (
     -- the term that was read
     pub came : Came b from a.end a.begun
     came =
-        let z : (read_by allow b from limit).number ≡ 0 = ap (λ (x : Answer). x.number) (sym e) ∙ h in
+        let z : (read_by allow b from limit).number ≡ 0 = ap (λ (x : Told). x.number) (sym e) ∙ h in
         let f = read_sound allow b from limit z in
         record {
           short = read_short allow b from limit z;
@@ -111,8 +111,8 @@ module _ (allow : Allowed) (b : List ℕ) (from limit room : ℕ) {a : Answer} (
           tree = f.tree;
           laid = f.laid;
           stands = f.stands;
-          ends = ap (λ (x : Answer). x.end) e ∙ f.ends;
-          counted = ap (λ (x : Answer). x.begun) e ∙ f.counted;
+          ends = ap (λ (x : Told). x.end) e ∙ f.ends;
+          counted = ap (λ (x : Told). x.begun) e ∙ f.counted;
         }
 
 -- with room for its cells it is good; and it has no more terms than the input may have bytes
@@ -124,26 +124,26 @@ few w = omega (arith, w.counted, w.short, w.stands.inside, size-bytes w.tree)
 
 -- what becomes of a term, by its tests
 module _ (len end begun words : ℕ) where
-  pub ended_trailing : end < len → ended.No cause.Trailing end (len - end) ≡ ended_by len end begun words
+  pub ended_trailing : end < len → Err (why.Trailing (len - end), end) ≡ ended_by len end begun words
   unfolding ended_by
   ended_trailing h = rw (lt-ltb end len h)
 
-  pub ended-room : len ≤ end → words < cell_words * begun → ended.No cause.Room 0 begun ≡ ended_by len end begun words
+  pub ended-room : len ≤ end → words < cell_words * begun → Err (why.Room begun, 0) ≡ ended_by len end begun words
   unfolding ended_by
   ended-room h k = rw (le-ltb end len h, lt-ltb words (cell_words * begun) k)
 
-  pub ended-done : len ≤ end → cell_words * begun ≤ words → ended.Done ≡ ended_by len end begun words
+  pub ended-done : len ≤ end → cell_words * begun ≤ words → Ok tt ≡ ended_by len end begun words
   unfolding ended_by
   ended-done h k = rw (le-ltb end len h, le-ltb words (cell_words * begun) k)
 
-  pub done-room : ended_by len end begun words ≡ ended.Done → cell_words * begun ≤ words
+  pub done-room : ended_by len end begun words ≡ Ok tt → cell_words * begun ≤ words
   unfolding ended_by
   done-room = go (ltb end len) (ltb words (cell_words * begun)) refl
     where
-      never : {c : Cause} {o x : ℕ} → ended.No c o x ≡ ended.Done → cell_words * begun ≤ words
+      never : {e : Refusal × ℕ} → Err e ≡ Ok (tt {0}) → cell_words * begun ≤ words
       never e = absurd (let z : ◌≡◌ {A = ℕ} 0 1 = cc in omega arith)
 
-      go : (x y : Bool) → ltb words (cell_words * begun) ≡ y → cond x (ended.No cause.Trailing end (len - end)) (cond y (ended.No cause.Room 0 begun) ended.Done) ≡ ended.Done → cell_words * begun ≤ words
+      go : (x y : Bool) → ltb words (cell_words * begun) ≡ y → cond {A = Ended} x (Err (why.Trailing (len - end), end)) (cond y (Err (why.Room begun, 0)) (Ok tt)) ≡ Ok tt → cell_words * begun ≤ words
       go true y h e = never e
       go false true h e = never e
       go false false h e = ltb-false words (cell_words * begun) h
@@ -159,19 +159,8 @@ laid-front from t tape h =
     let z : 0 + length (words t from 0 0) ≡ cell_words * size t = omega arith in
     sets-eq (words t from 0 0) tape 0 (omega arith) ∙ ap (λ (k : ℕ). words t from 0 0 ++ drop k tape) z
 
--- no cause has the number of Done
-pub numbered : (c : Cause) → ¬ (number_of c ≡ 0)
-numbered cause.Eof e = omega arith
-numbered cause.Tag e = omega arith
-numbered cause.Trailing e = omega arith
-numbered cause.Room e = omega arith
-numbered cause.Long e = omega arith
-numbered cause.Kind e = omega arith
-numbered cause.Limit e = omega arith
-numbered cause.Absent e = omega arith
-
 -- a call that meets the promise, by what became of its term: Done, and it has written its term's words; or refused behind it
-pub closes : {allow : Allowed} {b old new : List ℕ} {from limit : ℕ} {a r : Answer} {x : Ended} → a ≡ read_by allow b from limit → a.number ≡ 0 → x ≡ ended_by (length b) a.end a.begun (length old) →
+pub closes : {allow : Allowed} {b old new : List ℕ} {from limit : ℕ} {a r : Told} {x : Ended} → a ≡ read_by allow b from limit → a.number ≡ 0 → x ≡ ended_by (length b) a.end a.begun (length old) →
     Leaves x b from old new → r ≡ answered a x → Promised (opens from allow) b limit r old new
 unfolding read_behind
 closes {allow} {b} {old} {new} {from} {limit} {a} {r} {x} e z = go x
@@ -184,13 +173,13 @@ closes {allow} {b} {old} {new} {from} {limit} {a} {r} {x} e z = go x
     is f = ap (answered a) f ∙ sym (whole-ended allow b from limit (length old) e z)
 
     go : (x : Ended) → x ≡ ended_by (length b) a.end a.begun (length old) → Leaves x b from old new → r ≡ answered a x → Promised (opens from allow) b limit r old new
-    go (ended.No c o x) f w h =
-        record { answered = h ∙ is f; refused = λ _. w; done = λ d. absurd (numbered c (ap (λ (m : Answer). m.number) (sym h) ∙ d)) }
-    go ended.Done f w h =
+    go (Err (c, o)) f w h =
+        record { answered = h ∙ is f; refused = λ _. w; done = λ d. absurd (refused_some c (ap (λ (m : Told). m.number) (sym h) ∙ d)) }
+    go (Ok x) f w h =
         let g = good (came allow b from limit (length old) e z) (done-room (length b) a.end a.begun (length old) (sym f)) in
         record {
           answered = h ∙ is f;
-          refused = λ n. absurd (n (ap (λ (m : Answer). m.number) h ∙ z));
+          refused = λ n. absurd (n (ap (λ (m : Told). m.number) h ∙ z));
           done = λ _ p v o t l s.
               let q : p ≡ from = ap start_of (sym o) in
               let s' : Stands b from (bytes t) = rw q at s in
@@ -198,9 +187,9 @@ closes {allow} {b} {old} {new} {from} {limit} {a} {r} {x} e z = go x
               rw q (w.same v t l s' ∙ laid-front from t old (rw u g.fits));
         }
 
-pub refuse : {o : Before} {b tape : List ℕ} {limit : ℕ} {r a : Answer} → r ≡ a → a ≡ read_behind o b limit (length tape) → ¬ (a.number ≡ 0) → Promised o b limit r tape tape
+pub refuse : {o : Before} {b tape : List ℕ} {limit : ℕ} {r a : Told} → r ≡ a → a ≡ read_behind o b limit (length tape) → ¬ (a.number ≡ 0) → Promised o b limit r tape tape
 refuse e f h = record { answered = e ∙ f; refused = λ _. refl; done = λ z. absurd (h (rw e at z)) }
 
 -- a call behind what stands before its term
-pub go_on : {o : Before} {allow : Allowed} {b old new : List ℕ} {from limit : ℕ} {r : Answer} → o ≡ opens from allow → Promised (opens from allow) b limit r old new → Promised o b limit r old new
+pub go_on : {o : Before} {allow : Allowed} {b old new : List ℕ} {from limit : ℕ} {r : Told} → o ≡ opens from allow → Promised (opens from allow) b limit r old new → Promised o b limit r old new
 go_on e p = rw e p

@@ -12,11 +12,11 @@ use Rattle.numbers.specs.Caps as cap
 use Rattle.numbers.specs.Numbers as number
 use Rattle.numbers.specs.Numbers.{among}
 use Rattle.numbers.specs.Allowed.{Allowed, plain}
-use Rattle.reading.specs.declared.Answer.{Answer}
-use Rattle.reading.specs.declared.Start.{Start}
-use Rattle.reading.specs.declared.Start.TheVariants as start
+use Rattle.reading.specs.Told.{Told}
+use Rattle.std.specs.Prelude.{Ok, Err}
+use Rattle.numbers.proofs.Laws.{refusal_listed}
+use Rattle.reading.specs.Answer.{Start}
 use Rattle.reading.specs.Answer.{starts}
-use Rattle.reading.proofs.Outcomes.{cause_listed}
 use Rattle.layouts.specs.Tree.{Tree, bytes, size}
 use Rattle.layouts.specs.Layout.{Laid}
 use Rattle.tape.specs.Cells.{taped}
@@ -42,10 +42,10 @@ module _ (b : List ℕ) (limit : ℕ) where
     where
       go : (s : Start) (x : Bool) → eqb (length b) 0 ≡ x → (y : Bool) → eqb (get_or b 0 0) 131 ≡ y → starts_before s (cond x (refuses number.Eof 0) (cond y (opens 1 plain) (refuses number.Tag 0))) ≡ opens from allow →
           Version b from allow
-      go (start.No c) x h y k e = never e
-      go start.Reads true h y k e = never e
-      go start.Reads false h true k e = record { first = eqb-true _ _ k; here = eqb-false _ _ h; behind = let q : 1 ≡ from = cc in sym q; own = let q : plain ≡ allow = cc in sym q }
-      go start.Reads false h false k e = never e
+      go (Err r) x h y k e = never e
+      go (Ok u) true h y k e = never e
+      go (Ok u) false h true k e = record { first = eqb-true _ _ k; here = eqb-false _ _ h; behind = let q : 1 ≡ from = cc in sym q; own = let q : plain ≡ allow = cc in sym q }
+      go (Ok u) false h false k e = never e
 
   -- its refusals bear numbers of the list, and it lies in the input
   pub record_sure : Sure (record_before b limit)
@@ -53,10 +53,10 @@ module _ (b : List ℕ) (limit : ℕ) where
   record_sure = go (starts limit (length b)) (eqb (length b) 0) (eqb (get_or b 0 0) 131)
     where
       go : (s : Start) (x y : Bool) → Sure (starts_before s (cond x (refuses number.Eof 0) (cond y (opens 1 plain) (refuses number.Tag 0))))
-      go (start.No c) x y = cause_listed c
-      go start.Reads true y = refl
-      go start.Reads false true = tt
-      go start.Reads false false = refl
+      go (Err r) x y = refusal_listed r
+      go (Ok u) true y = refl
+      go (Ok u) false true = tt
+      go (Ok u) false false = refl
 
   pub record_inside : Inside (record_before b limit) b
   record_inside = go (record_before b limit) refl
@@ -96,9 +96,9 @@ module _ (b : List ℕ) (limit : ℕ) where
     accepts h k l = (sound, λ x. (complete h k l x).0)
 
 -- a call of `read` that was Done: its term, and its tape
-module _ {b : List ℕ} {limit : ℕ} {r : Answer} {old new : List ℕ} (p : Recorded b limit r old new) (d : r.number ≡ 0) where
+module _ {b : List ℕ} {limit : ℕ} {r : Told} {old new : List ℕ} (p : Recorded b limit r old new) (d : r.number ≡ 0) where
   pub accepted : Accepted plain (131 ∷ []) b limit (length old)
-  accepted = sound b limit (length old) (ap (λ (a : Answer). a.number) (sym p.answered) ∙ d)
+  accepted = sound b limit (length old) (ap (λ (a : Told). a.number) (sym p.answered) ∙ d)
 
   pub written : (t : Tree) → Laid plain t → b ≡ 131 ∷ bytes t → new ≡ taped 1 t old
   written t l e =

@@ -13,9 +13,12 @@ use Rattle.reading.specs.declared.Kind.{Kind}
 use Rattle.reading.specs.declared.Kind.TheVariants.{Tuple, List as KList, Tail, Key, Value, Free}
 use Rattle.reading.specs.declared.Segment.{Segment}
 use Rattle.fields.specs.Field.{field_at}
-use Rattle.fields.specs.declared.Field.TheVariants as field
+use Rattle.std.specs.Prelude.{Some, Ok, Err}
+use Rattle.numbers.specs.Refusal.{extra_of}
+use Rattle.numbers.specs.declared.Refusal.{Refusal}
+use Rattle.numbers.specs.declared.Refusal.TheVariants as why
+use Rattle.rows.proofs.Laws.{by_count, count_in, count-over, count_eof}
 use Rattle.rows.specs.Row.{count_at}
-use Rattle.rows.specs.declared.Counted.TheVariants as count
 use Rattle.reading.specs.Reading.{State, Result, done, and_then, entered, moved}
 use Rattle.reading.specs.Terms.{elems, pair, pairs, small_tuple, large_tuple, list, map}
 use Rattle.terms.specs.Inner.Kids.{segment_of, entering, kids_of}
@@ -117,26 +120,34 @@ module _ (read : State → Result) where
 
   -- the families, where their count is there and within its cap
   module _ (b : List ℕ) (s : State) (n prev : ℕ) where
-    pub small_kids : field_at 1 b s.at ≡ field.Is n → small_tuple read b s ≡ kids_of read (segment_of family.Tuple n) 0 n prev (moved (s.at + 1) s)
+    pub small_kids : field_at 1 b s.at ≡ Some n → small_tuple read b s ≡ kids_of read (segment_of family.Tuple n) 0 n prev (moved (s.at + 1) s)
     unfolding small_tuple
     small_kids e = sized-is 1 b _ s e ∙ tuples n 0 n prev (moved (s.at + 1) s)
 
-    pub large_kids : count_at cap.elements b s.at ≡ count.Is n → large_tuple read b s ≡ kids_of read (segment_of family.Tuple n) 0 n prev (moved (s.at + 4) s)
+    pub large_kids : count_at cap.elements b s.at ≡ Ok n → large_tuple read b s ≡ kids_of read (segment_of family.Tuple n) 0 n prev (moved (s.at + 4) s)
     unfolding large_tuple
     large_kids e = counted_is cap.elements b _ s e ∙ tuples n 0 n prev (moved (s.at + 4) s)
 
-    pub list_kids : count_at cap.elements b s.at ≡ count.Is n → list read b s ≡ kids_of read (segment_of family.List (n + 1)) 0 (n + 1) prev (moved (s.at + 4) s)
+    pub list_kids : count_at cap.elements b s.at ≡ Ok n → list read b s ≡ kids_of read (segment_of family.List (n + 1)) 0 (n + 1) prev (moved (s.at + 4) s)
     unfolding list
     list_kids e =
         counted_is cap.elements b _ s e ∙ lists (n + 1) 0 n prev (moved (s.at + 4) s) (omega arith)
         ∙ ap (λ (k : ℕ). kids_of read (segment_of family.List (n + 1)) 0 k prev (moved (s.at + 4) s)) (sym (add-one n))
 
-    pub map_kids : count_at cap.pairs b s.at ≡ count.Is n → map read b s ≡ kids_of read (segment_of family.Map (2 * n)) 0 (2 * n) prev (moved (s.at + 4) s)
+    pub map_kids : count_at cap.pairs b s.at ≡ Ok n → map read b s ≡ kids_of read (segment_of family.Map (2 * n)) 0 (2 * n) prev (moved (s.at + 4) s)
     unfolding map
     map_kids e = counted_is cap.pairs b _ s e ∙ maps (2 * n) 0 n prev (moved (s.at + 4) s) (omega arith)
 
   pub free_kids : (n prev : ℕ) (s : State) → elems read Free 0 n s ≡ kids_of read (segment_of family.Function n) 0 n prev s
   free_kids n prev s = frees n 0 n prev s
+
+-- a count is refused with no extra
+pub count_extra : (most : ℕ) (b : List ℕ) (p : ℕ) {r : Refusal} → count_at most b p ≡ Err r → extra_of r ≡ 0
+count_extra most b p {r} h =
+    by_count most b p
+    (λ m e k. let f : Ok m ≡ Err r = sym (count_in most b p e k) ∙ h in absurd cc)
+    (λ m e k. let f : Err why.Size ≡ Err r = sym (count-over most b p e k) ∙ h in let g : why.Size ≡ r = cc in rw (← g))
+    (λ e. let f : Err why.Eof ≡ Err r = sym (count_eof most b p e) ∙ h in let g : why.Eof ≡ r = cc in rw (← g))
 
 -- the deepest nesting may be raised to the first child's before the children are read
 pub raise_kids : (allow : Allowed) (b : List ℕ) (limit rem : ℕ) (seg : ℕ → ℕ → Segment) (n prev : ℕ) (s : State) → ¬ (rem ≡ 0) → s.at < length b → ¬ (n ≡ 0) →

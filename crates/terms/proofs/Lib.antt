@@ -1,5 +1,4 @@
 pub mod Laws
 pub mod Children
-pub mod Segments
 pub mod Shorts
 pub mod Positions

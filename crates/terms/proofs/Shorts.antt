@@ -1,5 +1,6 @@
 -- A child that `shortcut` finds is read so. Assumes nothing.
-use mathlib.Core.Path.{◌≡◌, ◌∙◌}
+use mathlib.Core.Path.{◌≡◌, sym}
+use Rattle.std.specs.Prelude.{Option, Some, None, MatchOption}
 use mathlib.Core.List.{List}
 use Prim.Native.Nat.{ℕ, ◌+◌, ◌-◌, ◌≤◌}
 use native.Mathlib.Omega.{arith}
@@ -10,9 +11,10 @@ use Rattle.shortcut.proofs.Shorts.{ShortRow, short_row}
 use Rattle.reading.proofs.Families.{term-row}
 use Rattle.terms.specs.Inner.Lent.{Short}
 
-pub short-is : (b : List ℕ) (rem at : ℕ) {end : ℕ} → ¬ (rem ≡ 0) → length b ≤ cap.input → end ≡ short_end b at → ¬ (end ≡ 0) → Short b rem at end
-short-is b rem at {end} some size e h =
-    let r : ShortRow b at end = rw e (short_row b at size (λ z. h (e ∙ z))) in
+pub short-is : (b : List ℕ) (rem at : ℕ) (r : Option ℕ) → ¬ (rem ≡ 0) → length b ≤ cap.input → r ≡ short_end b at → MatchOption r Unit (λ end. Short b rem at end)
+short-is b rem at None some size e = tt
+short-is b rem at (Some end) some size e =
+    let r : ShortRow b at end = short_row b at size (sym e) in
     record {
       some = some;
       after = r.after;

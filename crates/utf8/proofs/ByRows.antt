@@ -1,6 +1,6 @@
 -- Going by the rows of Unicode's table finds the character that stands at the front of a list of bytes (`by_table`), or that there is none
 -- (`not_listed`). Assumes nothing.
-use Rattle.std.proofs.Common.{◌≡◌, ℕ, suc, ◌<◌, ◌≤◌, Bool, true, false, ◌&&◌, ltb, leb, ◌⊎◌, List, [], ◌∷◌, ◌++◌, length, take, drop, sym, refl, ap, ◌∙◌, subst, inl, inr, arith, take-append-drop, ltb-true, ne_eqb, le-leb, leb-true}
+use Rattle.std.proofs.Common.{◌≡◌, ℕ, suc, ◌<◌, ◌≤◌, Bool, true, false, ◌&&◌, ltb, leb, ◌⊎◌, List, [], ◌∷◌, ◌++◌, length, take, drop, Some, None, sym, refl, ap, ◌∙◌, subst, inl, inr, ⊎_elim, arith, take-append-drop, ltb-true, ne_eqb, le-leb, leb-true}
 use mathlib.Core.Bool.{false≢true, and-eq-true_iff}
 use borrow.Author.Tests.{lt-leb}
 use Rattle.utf8.specs.Unicode.{encode}
@@ -159,15 +159,15 @@ module _ (s : List ℕ) where
       let e = ap (by_rows undecided table) b.is ∙ found (encode b.char) b.rest table-rises r in
       (omega (arith, longer _ r, e), omega (arith, shorter table-rises r, e))
 
-  pub not_listed : by_rows undecided table s ≡ undecided → Char s 0
-  not_listed e = none refl (λ b. omega (arith, (stands b).1))
+  pub no_character : (by_rows undecided table s ≡ 0) ⊎ (by_rows undecided table s ≡ undecided) → Char s None
+  no_character e = none (λ b. ⊎_elim (λ z. omega (arith, (stands b).0)) (λ z. omega (arith, (stands b).1)) e)
 
-  pub by_table : (by_rows undecided table s ≡ undecided → ⊥) → Char s (by_rows undecided table s)
-  by_table h = go (by_rows undecided table s) refl h (told s table-rises)
+  pub by_table : ¬ (by_rows undecided table s ≡ undecided) → ¬ (by_rows undecided table s ≡ 0) → Char s (Some (by_rows undecided table s))
+  by_table h k = go (by_rows undecided table s) h k (told s table-rises)
     where
-      go : (n : ℕ) → by_rows undecided table s ≡ n → (n ≡ undecided → ⊥) → Told table s n → Char s n
-      go n e k (no (inl z)) = absurd (k z)
-      go n e k (no (inr z)) = none z (λ b. omega (arith, (stands b).0))
-      go n e k (yes p w r) =
+      go : (n : ℕ) → ¬ (n ≡ undecided) → ¬ (n ≡ 0) → Told table s n → Char s (Some n)
+      go n h k (no (inl z)) = absurd (h z)
+      go n h k (no (inr z)) = absurd (k z)
+      go n h k (yes p w r) =
           let f = listed (take n s) r in
           one p w f.char f.good (sym (take-append-drop n s) ∙ ap (λ (l : List ℕ). l ++ drop n s) f.is)

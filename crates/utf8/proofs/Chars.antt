@@ -1,5 +1,5 @@
 -- One character at the front of a list of bytes: what its bytes are by their number. Assumes nothing.
-use Rattle.std.proofs.Common.{◌≡◌, ℕ, ◌+◌, ◌-◌, ◌/◌, ◌%◌, ◌<◌, ◌≤◌, Bool, true, false, ltb, ◌⊎◌, List, [], ◌∷◌, ◌++◌, length, get_or, drop, sym, refl, ap, ◌∙◌, inl, inr, ⊎_elim, add-zero, arith, length-drop, get_or-drop, ltb-false, ltb-true, le-ltb, lt-ltb}
+use Rattle.std.proofs.Common.{◌≡◌, ℕ, ◌+◌, ◌-◌, ◌/◌, ◌%◌, ◌<◌, ◌≤◌, Bool, true, false, ltb, ◌⊎◌, List, [], ◌∷◌, ◌++◌, length, get_or, drop, Some, sym, refl, ap, ◌∙◌, inl, inr, ⊎_elim, add-zero, arith, length-drop, get_or-drop, ltb-false, ltb-true, le-ltb, lt-ltb}
 use native.Mathlib.Nat.{div-div-eq-div-mul}
 use Rattle.utf8.specs.Unicode.{scalar, encode}
 use Rattle.utf8.specs.Inner.Find.{decode}
@@ -144,7 +144,7 @@ module _ (s : List ℕ) (i : ℕ) where
   not_end b = ⊎_elim (λ w. omega arith) (⊎_elim (λ w. omega arith) (⊎_elim (λ w. omega arith) (λ w. omega arith))) (cases b)
 
   -- a byte of ASCII is one
-  pub is_one : i + 1 ≤ length s → get_or s i 0 < 0x80 → Char (drop i s) 1
+  pub is_one : i + 1 ≤ length s → get_or s i 0 < 0x80 → Char (drop i s) (Some 1)
   is_one l h =
       one (omega arith) (from_left l) (get_or s i 0) (below (omega arith))
       (firsts_1 (drop i s) (from_left l) ∙ rw (encode_1 (get_or s i 0) h, at_first s i))

@@ -1,10 +1,9 @@
 -- `good_bytes s` is what Good.antt says: its bytes spell good characters, and none stands behind them. Assumes nothing.
-use Rattle.std.proofs.Common.{◌≡◌, ℕ, zero, suc, ◌+◌, ◌<◌, ◌≤◌, Bool, true, false, eqb, List, [], ◌∷◌, ◌++◌, length, get_or, drop, sym, refl, ap, ◌∙◌, subst, append_assoc, append-nil, arith, length-append, length-drop, drop-drop, eq-eqb, ne_eqb, eqb-true}
+use Rattle.std.proofs.Common.{◌≡◌, ℕ, zero, suc, ◌+◌, ◌<◌, ◌≤◌, Bool, true, false, eqb, List, [], ◌∷◌, ◌++◌, length, get_or, drop, Option, sym, refl, ap, ◌∙◌, subst, append_assoc, append-nil, arith, length-append, length-drop, drop-drop, eq-eqb, eqb-true}
 use Rattle.utf8.specs.Unicode.{scalar, encode}
 use Rattle.utf8.specs.Inner.Find.{decode, starts, char_bytes, good_from, good_bytes}
 use Rattle.utf8.specs.Good.{spelled, more, Good}
-use Rattle.utf8.specs.Inner.Check as char
-use Rattle.utf8.specs.Inner.Check.{Begins, Char}
+use Rattle.utf8.specs.Inner.Check.{Begins, Char, none, one}
 use Rattle.utf8.proofs.Chars.{decoded, not_end}
 use Rattle.utf8.proofs.Runs.{none_yet, at-end, good-to, spells, no_further}
 
@@ -49,9 +48,9 @@ char-bytes s = go (scalar c) refl (starts (encode c) s) refl
     go true e true f =
         let here : Begins s = record { char = c; good = e; rest = drop (length (encode c)) s; is = starts-true (encode c) s f } in
         let alone : Begins (encode c) = record { char = c; good = e; rest = []; is = sym (append-nil (encode c)) } in
-        rw (e, f) (char.one (not_end (encode c) 0 alone) (omega (arith, simp length-append at (ap length here.is))) c e here.is)
-    go true e false f = rw (e, f) (char.none refl (λ b. fails f (passes b).1))
-    go false e u f = rw e (char.none refl (λ b. fails e (passes b).0))
+        rw (e, f) (one (not_end (encode c) 0 alone) (omega (arith, simp length-append at (ap length here.is))) c e here.is)
+    go true e false f = rw (e, f) (none (λ b. fails f (passes b).1))
+    go false e u f = rw e (none (λ b. fails e (passes b).0))
 
 -- a character and what is good behind it
 one-first : {s : List ℕ} {n m : ℕ} → 0 < n → n ≤ length s → (c : ℕ) → scalar c ≡ true → s ≡ encode c ++ drop n s → Good (drop n s) m → Good s (n + m)
@@ -69,12 +68,10 @@ one-first {s} {n} {m} p l c h e g =
     })
     (λ b. no_further g (subst (λ (t : List ℕ). Begins t) (sym (drop-drop m n s)) b))
 
-next : (most : ℕ) (s : List ℕ) → ((t : List ℕ) → length t ≤ most → Good t (good_from most t)) → length s ≤ suc most → (n : ℕ) → Char s n → char_bytes s ≡ n → Good s (good_from (suc most) s)
+next : (most : ℕ) (s : List ℕ) → ((t : List ℕ) → length t ≤ most → Good t (good_from most t)) → length s ≤ suc most → (r : Option ℕ) → Char s r → char_bytes s ≡ r → Good s (good_from (suc most) s)
 unfolding good_from
-next most s later h n (char.none z stuck) e =
-    rw (eq-eqb (char_bytes s) 0 (e ∙ z)) (good-to (none_yet s) stuck)
-next most s later h n (char.one p l c k f) e =
-    rw (e, ne_eqb n 0 (λ z. omega arith)) (one-first p l c k f (later (drop n s) (simp length-drop (omega arith))))
+next most s later h r (none stuck) e = rw e (good-to (none_yet s) stuck)
+next most s later h r (one {n = n} p l c k f) e = rw e (one-first p l c k f (later (drop n s) (simp length-drop (omega arith))))
 
 good_from_lem : (most : ℕ) (s : List ℕ) → length s ≤ most → Good s (good_from most s)
 unfolding good_from

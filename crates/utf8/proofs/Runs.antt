@@ -1,6 +1,6 @@
 -- Rows of characters from the front of a list of bytes: how the check's loop goes on, and that it can end in one place only.
 -- Assumes nothing.
-use Rattle.std.proofs.Common.{◌≡◌, ℕ, zero, suc, ◌+◌, ◌-◌, ◌<◌, ◌≤◌, true, List, [], ◌∷◌, ◌++◌, length, get_or, take, drop, sym, refl, ap, ◌∙◌, subst, append_assoc, append-nil, add-zero, arith, length-append, length-drop, take-append-drop, drop-drop, take_at}
+use Rattle.std.proofs.Common.{◌≡◌, ℕ, zero, suc, ◌+◌, ◌-◌, ◌<◌, ◌≤◌, true, List, [], ◌∷◌, ◌++◌, length, get_or, take, drop, Some, None, sym, refl, ap, ◌∙◌, subst, append_assoc, append-nil, add-zero, arith, length-append, length-drop, take-append-drop, drop-drop, take_at}
 use Rattle.utf8.specs.Unicode.{scalar, encode}
 use Rattle.utf8.specs.Good.{spelled, Scalars, none, more, Good}
 use Rattle.utf8.specs.Inner.Check as char
@@ -23,9 +23,8 @@ none_yet s = record { chars = []; scalars = none; within = omega arith; front = 
 
 module _ {s : List ℕ} {i : ℕ} (r : Spells s i) where
   -- a character more
-  pub one_more : (n : ℕ) → Char (drop i s) n → (n ≡ 0 → ⊥) → Spells s (i + n)
-  one_more n (char.none e stuck) k = absurd (k e)
-  one_more n (char.one p l c h e) k =
+  pub one_more : {n : ℕ} → Char (drop i s) (Some n) → Spells s (i + n)
+  one_more (char.one {n = n} p l c h e) =
       record {
         chars = r.chars ++ (c ∷ []);
         scalars = scalars_snoc r.scalars c h;
@@ -36,14 +35,12 @@ module _ {s : List ℕ} {i : ℕ} (r : Spells s i) where
             ∙ ap (λ (l : List ℕ). l ++ drop (i + n) s) (sym (spelled_snoc r.chars c));
       }
 
-  -- it stays within the list
-  pub step : {n : ℕ} → Char (drop i s) n → i + n ≤ length s
-  step (char.none e stuck) = let h = r.within in omega arith
-  step (char.one p l c h e) = let g = simp length-drop at l in let h = r.within in omega arith
+  -- it stays within the list, and goes on
+  pub step : {n : ℕ} → Char (drop i s) (Some n) → (0 < n) × (i + n ≤ length s)
+  step (char.one p l c h e) = let g = simp length-drop at l in let h = r.within in (p, omega arith)
 
-  pub stuck-here : {n : ℕ} → Char (drop i s) n → n ≡ 0 → Begins (drop i s) → ⊥
-  stuck-here (char.none e stuck) z = stuck
-  stuck-here (char.one p l c h e) z = λ b. omega arith
+  pub stuck-here : Char (drop i s) None → Begins (drop i s) → ⊥
+  stuck-here (char.none stuck) = stuck
 
 -- a run of ASCII more
 plain_more : {s : List ℕ} (n i : ℕ) → Spells s i → Plain s i (i + n) → Spells s (i + n)
@@ -51,7 +48,7 @@ plain_more {s} zero i r p = rw add-zero r
 plain_more {s} (suc n) i r p =
     subst (λ (m : ℕ). Spells s m) (omega arith)
     (plain_more n (i + 1)
-    (one_more r 1 (is_one s i (omega arith) (p.low i (omega arith) (omega arith))) (λ e. omega arith))
+    (one_more r (is_one s i (omega arith) (p.low i (omega arith) (omega arith))))
     (record { order = omega arith; within = omega arith; low = λ k l h. p.low k (omega arith) (omega arith) }))
 
 pub plain-to : {s : List ℕ} {i j : ℕ} → Spells s i → Plain s i j → Spells s j
@@ -60,7 +57,7 @@ plain-to {s} {i} {j} r p =
     subst (λ (m : ℕ). Spells s m) e (plain_more (j - i) i r (subst (λ (m : ℕ). Plain s i m) (sym e) p))
 
 pub ascii_more : {s : List ℕ} {i j : ℕ} → Spells s i → i < length s → get_or s i 0 < 0x80 → Plain s (i + 1) j → Spells s j
-ascii_more {s} {i} r l h p = plain-to (one_more r 1 (is_one s i (omega arith) h) (λ e. omega arith)) p
+ascii_more {s} {i} r l h p = plain-to (one_more r (is_one s i (omega arith) h)) p
 
 -- no character begins the empty list
 pub at-end : (s : List ℕ) (i : ℕ) → length s ≤ i → Begins (drop i s) → ⊥

@@ -1,6 +1,6 @@
 -- What is written of small rows, and what a write leaves of them, as the definitions compute it; each shuts out a writer that it names. Assumes nothing.
-use Rattle.std.proofs.Common.{◌≡◌, ℕ, List, [], ◌∷◌, get_or, pos, negsuc, sym, refl, ap, ◌∙◌}
-use Rattle.numbers.specs.Numbers as number
+use Rattle.std.proofs.Common.{◌≡◌, ℕ, List, [], ◌∷◌, get_or, Ok, Err, pos, negsuc, sym, refl, ap, ◌∙◌}
+use Rattle.numbers.specs.declared.Refusal.TheVariants as refusal
 use Rattle.fields.specs.Be.{bytes_of, digits_of}
 use Rattle.layouts.specs.Tree.{count, bytes_all, depths}
 use Rattle.measure.specs.Item.{integer, double, tuple, list, map, nil, kids_of, allowed}
@@ -27,7 +27,7 @@ unfolding kids_of first behind ended big integer_tree tree_of trees_of written b
 examples = record { digits_4 = refl; digits_5 = refl; digits_8 = refl; minus_one = refl; one_and_a_half = refl; no_element = refl; a_nil = refl; tails = refl; a_pair = refl }
 
 -- Room is found before a byte is written: a writer that has put 131 by then leaves another byte, or doesn't say 9 and 2
-pub room-first : (x : ℕ) → write_over (nil ∷ []) (x ∷ []) ≡ left number.Room 0 2 (x ∷ [])
+pub room-first : (x : ℕ) → write_over (nil ∷ []) (x ∷ []) ≡ left (Err (refusal.Room 2)) (x ∷ [])
 unfolding kids_of allowed first behind tree_of trees_of sound written accepted bytes_all count depths write_over
 room-first x = refl
 
@@ -36,11 +36,11 @@ pub early_byte : {x y : ℕ} {new : List ℕ} → new ≡ (write_over (nil ∷ [
 early_byte {x} {y} p q = ap (λ (l : List ℕ). get_or l 0 0) (sym (ap (λ (l : Left). l.bytes) (room-first x)) ∙ sym p ∙ q)
 
 -- Items comes before Room, whatever is lent
-pub items-first : (old : List ℕ) → write_over [] old ≡ left number.Items 0 0 old
+pub items-first : (old : List ℕ) → write_over [] old ≡ left (Err refusal.Items) old
 unfolding trees_of sound accepted count write_over
 items-first old = refl
 
 -- bytes behind the term stay: a writer that clears what it is lent leaves another
-pub behind_the_term : (x y z : ℕ) → write_over (nil ∷ []) (x ∷ y ∷ z ∷ []) ≡ left number.Done 2 0 (131 ∷ 106 ∷ z ∷ [])
+pub behind_the_term : (x y z : ℕ) → write_over (nil ∷ []) (x ∷ y ∷ z ∷ []) ≡ left (Ok 2) (131 ∷ 106 ∷ z ∷ [])
 unfolding kids_of allowed first behind tree_of trees_of sound written accepted bytes_all count depths write_over
 behind_the_term x y z = refl

@@ -6,7 +6,7 @@ use Rattle.fields.proofs.Inverse.{length-bytes_of}
 use Rattle.measure.specs.Item.{Item, integer, atom, binary, signed64, text_at, item_of, allowed}
 use Rattle.measure.specs.Inner.Own.{head_of}
 use Rattle.measure.proofs.Items.{kind_known, kind_integer, kind_double, kind_atom, kind_binary, kind_tuple, kind_list, kind_map, kind_nil, atom-allowed, binary-allowed, tuple-allowed, list-allowed, map-allowed, head-double, head-short-name, head-long-name, head-binary, head-small-tuple, head_large_tuple, head-list, head-map, head-nil, length-number, length-text}
-use Rattle.writer.specs.Inner.Put.{Wrote, HeadFits, ParentFits, NumberFits, TextFits}
+use Rattle.writer.specs.Inner.Put.{Wrote, HeadFits, ParentFits, TextFits}
 use Rattle.writer.proofs.Wrote.{wider, then}
 
 -- a tag and a number of k bytes
@@ -14,8 +14,15 @@ pub record Numbered (l : List ℕ) (tag k n : ℕ) : Type 0 where
   pub is : l ≡ tag ∷ bytes_of k n
   pub holds : n < 256 ^ k
 
-pub number_fits : {l : List ℕ} {tag k n : ℕ} (p : ℕ) {room : ℕ} → Numbered l tag k n → p + length l ≤ room → NumberFits k n (p + 1) room
-number_fits {tag = tag} {k = k} {n = n} p b r = record { holds = b.holds; lent = omega (arith, length-number tag k n b.is) }
+pub number_fits : {l : List ℕ} {tag k n : ℕ} (p : ℕ) {room : ℕ} → Numbered l tag k n → p + length l ≤ room → p + 1 + k ≤ room
+number_fits {tag = tag} {k = k} {n = n} p b r = omega (arith, length-number tag k n b.is)
+
+-- its bytes, as std makes them, are what was put
+pub numbered : {l s old new : List ℕ} {tag k n p r : ℕ} → Numbered l tag k n → s ≡ bytes_of k n → Wrote old new p r r (tag ∷ s) → Wrote old new p r r l
+numbered b e w = rw (b.is, ← e) w
+
+pub lengthened : (k n : ℕ) {s old new : List ℕ} {tag p r : ℕ} → s ≡ bytes_of k n → Wrote old new p r r (tag ∷ s) → Wrote old new p r r (tag ∷ bytes_of k n)
+lengthened k n e w = rw (← e) w
 
 -- a tag, a length of k bytes, and a text of that length
 pub record Spelt (l texts : List ℕ) (tag k at n : ℕ) : Type 0 where
@@ -35,8 +42,8 @@ module _ {i : Item} {p end room : ℕ} (h : HeadFits i p end room) where
     pub long : p + (1 + k + n) ≤ end
     long = omega (arith, length-text tag k texts at n b.inside b.is, h.fits)
 
-    pub length-fits : NumberFits k n (p + 1) room
-    length-fits = record { holds = b.holds; lent = omega (arith, long, h.lent) }
+    pub length-fits : p + 1 + k ≤ room
+    length-fits = omega (arith, long, h.lent)
 
     module _ {old new : List ℕ} {q : ℕ} (w : Wrote old new p q q (tag ∷ bytes_of k n)) where
       ends : q ≡ p + (1 + k)

@@ -1,8 +1,11 @@
 -- Bytes that were put: by stores, side by side, as a number by its halves, and with others that may stand behind them. Assumes nothing.
-use Rattle.std.proofs.Common.{◌≡◌, ℕ, ◌+◌, ◌-◌, ◌/◌, ◌%◌, ◌^◌, ◌<◌, ◌≤◌, List, [], ◌∷◌, ◌++◌, length, get_or, take, drop, set, sym, refl, ap, ◌∙◌, append_assoc, add-one, arith, length-append, length-set, length-take-le, take-suc, take-take, drop-drop, take_at, drop-set-lt, drop_at}
+use Rattle.std.proofs.Common.{◌≡◌, ℕ, ◌+◌, ◌-◌, ◌/◌, ◌%◌, ◌<◌, ◌≤◌, List, [], ◌∷◌, ◌++◌, length, get_or, take, drop, set, w16, w32, w64, sym, refl, ap, ◌∙◌, append_assoc, add-one, arith, length-append, length-drop, length-set, length-take-le, take-suc, take-take, drop-drop, take_at, drop-set-lt, drop_at}
 use lib.Seq.{sets, sets-eq, length-sets, take-set-lt, set_at, append_snoc, take-append-add, paste, take-paste, drop-paste, length-paste}
 use Rattle.fields.specs.Be.{bytes_of}
-use Rattle.fields.proofs.Inverse.{bytes_of-one, bytes_of_joined}
+use Rattle.std.specs.Int.{to_be_bytes}
+use borrow.Rule.Slice.PartMut.{put_mid}
+use Rattle.std.proofs.lemmas.Slice.{take-put_mid, drop-put_mid}
+use Rattle.fields.proofs.Inverse.{bytes_of-one}
 use Rattle.writer.specs.Inner.Put.{Wrote}
 
 -- a run of stores, and no more
@@ -57,10 +60,57 @@ then {old} {p = p} {l = l} {k = k} h w v = record {
   kept = v.kept ∙ w.kept;
 }
 
--- a number's two halves, j bytes and k
-pub halves : (j k : ℕ) {old new last : List ℕ} {p q r s : ℕ} (n : ℕ) → n < 256 ^ (j + k) →
-    Wrote old new p q q (bytes_of j (n / 256 ^ k)) → Wrote new last q r r (bytes_of k (n % 256 ^ k)) → r ≡ s → Wrote old last p s s (bytes_of (j + k) n)
-halves j k n h w v e = rw (← bytes_of_joined j k n h) (wider e (omega arith) (then (omega (arith, v.to)) w v))
+-- a part written whole
+pub put : (old l : List ℕ) (p q : ℕ) → p ≤ q → q ≤ length old → length l ≡ length (take (q - p) (drop p old)) → Wrote old (put_mid p (q - p) old l) p q q l
+put old l p q o h e =
+    let part : length (take (q - p) (drop p old)) ≡ q - p = length-take-le (q - p) (drop p old) (omega (arith, length-drop p old)) in
+    let to : q ≡ p + length l = omega arith in
+    record {
+      to = to;
+      front = take-put_mid p (q - p) old l q to (omega arith);
+      rest = drop-put_mid p (q - p) old l q (omega arith) (omega arith) (omega arith);
+      kept =
+          length-append (take p old) (l ++ drop (q - p) (drop p old)) ∙ omega (arith, length-append l (drop (q - p) (drop p old)), length-take-le p old (omega arith), length-drop (q - p) (drop p old), length-drop p old);
+    }
+
+-- a number's bytes as std makes them
+pub bytes_1 : (n : ℕ) → n ∷ [] ≡ bytes_of 1 n
+bytes_1 n = sym (bytes_of-one n)
+
+pub bytes_2 : (n : ℕ) → n < 65536 → to_be_bytes w16 n ≡ bytes_of 2 n
+unfolding bytes_of
+bytes_2 n h =
+    let a : n / 256 % 256 ≡ n / 256 = omega arith in
+    let b : n % 256 ≡ n % 256 / 1 = omega arith in
+    cc
+
+pub bytes_4 : (n : ℕ) → n < 4294967296 → to_be_bytes w32 n ≡ bytes_of 4 n
+unfolding bytes_of
+bytes_4 n h =
+    let a : n / 16777216 % 256 ≡ n / 16777216 = omega arith in
+    let b : n / 65536 % 256 ≡ n % 16777216 / 65536 = omega arith in
+    let c : n / 256 % 256 ≡ n % 16777216 % 65536 / 256 = omega arith in
+    let d : n % 256 ≡ n % 16777216 % 65536 % 256 / 1 = omega arith in
+    cc
+
+pub bytes_8 : (n : ℕ) → n < 18446744073709551616 → to_be_bytes w64 n ≡ bytes_of 8 n
+unfolding bytes_of
+bytes_8 n h =
+    let m6 : n % 72057594037927936 % 281474976710656 ≡ n % 281474976710656 = omega arith in
+    let m5 : n % 281474976710656 % 1099511627776 ≡ n % 1099511627776 = omega arith in
+    let m4 : n % 1099511627776 % 4294967296 ≡ n % 4294967296 = omega arith in
+    let m3 : n % 4294967296 % 16777216 ≡ n % 16777216 = omega arith in
+    let m2 : n % 16777216 % 65536 ≡ n % 65536 = omega arith in
+    let m1 : n % 65536 % 256 ≡ n % 256 = omega arith in
+    let a7 : n / 72057594037927936 % 256 ≡ n / 72057594037927936 = omega arith in
+    let a6 : n / 281474976710656 % 256 ≡ n % 72057594037927936 / 281474976710656 = omega arith in
+    let a5 : n / 1099511627776 % 256 ≡ n % 281474976710656 / 1099511627776 = omega arith in
+    let a4 : n / 4294967296 % 256 ≡ n % 1099511627776 / 4294967296 = omega arith in
+    let a3 : n / 16777216 % 256 ≡ n % 4294967296 / 16777216 = omega arith in
+    let a2 : n / 65536 % 256 ≡ n % 16777216 / 65536 = omega arith in
+    let a1 : n / 256 % 256 ≡ n % 65536 / 256 = omega arith in
+    let a0 : n % 256 ≡ n % 256 / 1 = omega arith in
+    cc
 
 -- one in front of them, stored behind them
 pub in_front : {old new : List ℕ} {p q r end : ℕ} {l : List ℕ} (v : ℕ) → q ≡ p + 1 → p < end → end ≤ length old → Wrote old new q r end l → Wrote old (set new p v) p r end (v ∷ l)

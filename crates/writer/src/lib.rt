@@ -6,53 +6,35 @@
 #![tactic(auto)]
 
 ghost use Rattle.std.specs.Prelude.{◌≡◌, ◌+◌, ◌<◌, ◌≤◌, [], ◌∷◌, ◌++◌, length, take, drop};
-ghost use Rattle.fields.specs.Be.{bytes_of, digits_of};
+ghost use Rattle.fields.specs.Be.{digits_of};
 ghost use Rattle.measure.specs.Item as item;
 ghost use Rattle.measure.specs.Term as term;
 ghost use Rattle.measure.specs.Inner.Own.{head_in, head_of};
 ghost use Rattle.measure.proofs.Frames.{tail_by};
 ghost use Rattle.writer.specs.Write.{write_over};
-ghost use Rattle.writer.specs.Inner.Put.{Wrote, NumberFits, TextFits, HeadFits, LeafFits, ParentFits, Fits};
+ghost use Rattle.writer.specs.Inner.Put.{Wrote, TextFits, HeadFits, LeafFits, ParentFits, Fits};
 
-// What a write answers: the number (0 is Done), how many bytes were written (0 when refused), and the extra.
-#[derive(Clone, Copy)]
-pub struct Written {
-    pub number: u64,
-    pub len: usize,
-    pub extra: u64,
-}
+use numbers::Refusal;
 
-// Writes a row of items, three numbers to each, as one term behind byte 131; the texts of atoms and binaries lie in `texts`. Refused: Items, where
-// the row is refused whatever room is lent; then Room with the bytes needed. Only a Done write writes, and bytes behind the term stay.
-pub fn write(row: &[u64], texts: &[u8], out: &mut [u8]) -> Written
+// Writes a row of items, three numbers to each, as one term behind byte 131; the texts of atoms and binaries lie in `texts`. Answers how many bytes
+// were written. Refused: Items, where the row is refused whatever room is lent; then Room with the bytes needed. Only a Done write writes, and bytes
+// behind the term stay.
+pub fn write(row: &[u64], texts: &[u8], out: &mut [u8]) -> Result<usize, Refusal>
     ensures answer { result ≡ (write_over (item.items_of texts.now row.now) out.old).answer }
     ensures bytes { out.new ≡ (write_over (item.items_of texts.now row.now) out.old).bytes }
 {
-    let need = measure::needed(row, texts);
-    if need == 0 {
-        return Written {
-            number: numbers::ITEMS,
-            len: 0,
-            extra: 0,
-        };
-    }
+    let Some(need) = measure::needed(row, texts) else {
+        return Err(Refusal::Items);
+    };
     if out.len() < need {
-        return Written {
-            number: numbers::ROOM,
-            len: 0,
-            extra: need as u64,
-        };
+        return Err(Refusal::Room(need));
     }
     put(row, texts, out, need);
-    Written {
-        number: numbers::DONE,
-        len: need,
-        extra: 0,
-    }
+    Ok(need)
 }
 
 // The bytes of a row that is accepted, where there is room for them. `left` counts the children of the innermost open item that are still to come,
-// by twos, and one for a tail; `open` has the same of those around it.
+// by twos, and one for a tail; `open` has the same of those around it, and `i` is counted by hand, as in measure.
 fn put(row: &[u64], texts: &[u8], out: &mut [u8], end: usize)
     requires { Fits (item.items_of texts.now row.now) end (length out.old) }
     ensures { out.new ≡ term.written (item.items_of texts.now row.now) ++ drop end out.old }
@@ -113,8 +95,7 @@ fn leaf(out: &mut [u8], p: usize, texts: &[u8], kind: u64, x: u64, y: u64, end: 
         return integer(out, p, x);
     }
     if kind < measure::ATOM {
-        number8(out, p, 70, x);
-        return p + 9;
+        return number(out, p, 70, x.to_be_bytes());
     }
     if kind < measure::BINARY {
         return name(out, p, texts, x as usize, y as usize, end);
@@ -128,12 +109,10 @@ fn integer(out: &mut [u8], p: usize, x: u64) -> usize
     ensures { Wrote out.old out.new p result result (head_of (item.integer (item.signed64 x))) }
 {
     if x < 256 {
-        number1(out, p, 97, x);
-        return p + 2;
+        return number(out, p, 97, [x as u8]);
     }
-    if std::num::wrapping_add_u64(x, 2147483648) < 4294967296 {
-        number4(out, p, 98, x % 4294967296);
-        return p + 5;
+    if x.wrapping_add(2147483648) < 4294967296 {
+        return number(out, p, 98, ((x % 4294967296) as u32).to_be_bytes());
     }
     if x < 9223372036854775808 {
         return big(out, p, 0, x);
@@ -173,22 +152,19 @@ fn name(out: &mut [u8], p: usize, texts: &[u8], at: usize, n: usize, end: usize)
     ensures { Wrote out.old out.new p result end (head_of (item.text_at item.atom texts.now at n)) }
 {
     if n < 256 {
-        number1(out, p, 119, n as u64);
-        text(out, p + 2, texts, at, n, end);
-        return p + 2 + n;
+        let q = number(out, p, 119, [n as u8]);
+        return text(out, q, texts, at, n, end);
     }
-    number2(out, p, 118, n as u64);
-    text(out, p + 3, texts, at, n, end);
-    p + 3 + n
+    let q = number(out, p, 118, (n as u16).to_be_bytes());
+    text(out, q, texts, at, n, end)
 }
 
 fn binary(out: &mut [u8], p: usize, texts: &[u8], at: usize, n: usize, end: usize) -> usize
     requires { HeadFits (item.text_at item.binary texts.now at n) p end (length out.old) }
     ensures { Wrote out.old out.new p result end (head_of (item.text_at item.binary texts.now at n)) }
 {
-    number4(out, p, 109, n as u64);
-    text(out, p + 5, texts, at, n, end);
-    p + 5 + n
+    let q = number(out, p, 109, (n as u32).to_be_bytes());
+    text(out, q, texts, at, n, end)
 }
 
 // Nil, which is also a list's tail.
@@ -210,133 +186,38 @@ fn parent(out: &mut [u8], p: usize, kind: u64, x: u64) -> usize
     }
     if kind == measure::TUPLE {
         if x < 256 {
-            number1(out, p, 104, x);
-            return p + 2;
+            return number(out, p, 104, [x as u8]);
         }
-        number4(out, p, 105, x);
-        return p + 5;
+        return number(out, p, 105, (x as u32).to_be_bytes());
     }
     if kind == measure::LIST {
-        number4(out, p, 108, x);
-        return p + 5;
+        return number(out, p, 108, (x as u32).to_be_bytes());
     }
-    number4(out, p, 116, x);
-    p + 5
+    number(out, p, 116, (x as u32).to_be_bytes())
 }
 
-// A tag and a number behind it. The number's bytes are stored first: else the compiler makes a store of each.
-fn number1(out: &mut [u8], p: usize, tag: u8, n: u64)
-    requires { NumberFits 1 n (p + 1) (length out.old) }
-    ensures { Wrote out.old out.new p (p + 2) (p + 2) (tag ∷ bytes_of 1 n) }
+// A tag and a number's bytes behind it. These are stored first: else the compiler makes a store of each.
+fn number<const N: usize>(out: &mut [u8], p: usize, tag: u8, bytes: [u8; N]) -> usize
+    requires { p + 1 + N ≤ length out.old }
+    ensures { Wrote out.old out.new p result result (tag ∷ bytes.entry) }
 {
-    out[p + 1] = n as u8;
+    out[p + 1..p + 1 + N].copy_from_slice(&bytes);
     out[p] = tag;
-}
-
-fn number2(out: &mut [u8], p: usize, tag: u8, n: u64)
-    requires { NumberFits 2 n (p + 1) (length out.old) }
-    ensures { Wrote out.old out.new p (p + 3) (p + 3) (tag ∷ bytes_of 2 n) }
-{
-    put_u16(out, p + 1, n);
-    out[p] = tag;
-}
-
-fn number4(out: &mut [u8], p: usize, tag: u8, n: u64)
-    requires { NumberFits 4 n (p + 1) (length out.old) }
-    ensures { Wrote out.old out.new p (p + 5) (p + 5) (tag ∷ bytes_of 4 n) }
-{
-    put_u32(out, p + 1, n);
-    out[p] = tag;
-}
-
-fn number8(out: &mut [u8], p: usize, tag: u8, n: u64)
-    requires { NumberFits 8 n (p + 1) (length out.old) }
-    ensures { Wrote out.old out.new p (p + 9) (p + 9) (tag ∷ bytes_of 8 n) }
-{
-    put_u64(out, p + 1, n);
-    out[p] = tag;
-}
-
-// A number of two bytes, of four and of eight: each is two of half its width, and all of its stores become one.
-fn put_u16(out: &mut [u8], p: usize, n: u64)
-    requires { NumberFits 2 n p (length out.old) }
-    ensures { Wrote out.old out.new p (p + 2) (p + 2) (bytes_of 2 n) }
-{
-    out[p] = (n / 256) as u8;
-    out[p + 1] = (n % 256) as u8;
-}
-
-fn put_u32(out: &mut [u8], p: usize, n: u64)
-    requires { NumberFits 4 n p (length out.old) }
-    ensures { Wrote out.old out.new p (p + 4) (p + 4) (bytes_of 4 n) }
-{
-    put_u16(out, p, n / 65536);
-    put_u16(out, p + 2, n % 65536);
-}
-
-fn put_u64(out: &mut [u8], p: usize, n: u64)
-    requires { NumberFits 8 n p (length out.old) }
-    ensures { Wrote out.old out.new p (p + 8) (p + 8) (bytes_of 8 n) }
-{
-    put_u32(out, p, n / 4294967296);
-    put_u32(out, p + 4, n % 4294967296);
+    p + 1 + N
 }
 
 // The n bytes of the texts from `at` on. Short ones, where there are sixteen on both sides, are copied with what stands behind them: that takes no
-// branch on n.
-fn text(out: &mut [u8], p: usize, texts: &[u8], at: usize, n: usize, end: usize)
+// branch on n, and the sixteen are loaded before any is stored, so that it is one load and one store.
+fn text(out: &mut [u8], p: usize, texts: &[u8], at: usize, n: usize, end: usize) -> usize
     requires { TextFits (length texts.now) at n p end (length out.old) }
-    ensures { Wrote out.old out.new p (p + n) end (take n (drop at texts.now)) }
+    ensures { Wrote out.old out.new p result end (take n (drop at texts.now)) }
 {
-    if n <= 16 {
-        if 16 <= end - p {
-            if 16 <= texts.len() - at {
-                eight(out, p, texts, at);
-                eight(out, p + 8, texts, at + 8);
-                return;
-            }
-        }
+    if n <= 16 && 16 <= end - p && 16 <= texts.len() - at {
+        let (sixteens, _) = texts[at..].as_chunks::<16>();
+        let first = sixteens[0];
+        out[p..p + 16].copy_from_slice(&first);
+        return p + n;
     }
-    copy(out, p, texts, at, n);
-}
-
-fn copy(out: &mut [u8], p: usize, texts: &[u8], at: usize, n: usize)
-    requires { TextFits (length texts.now) at n p (p + n) (length out.old) }
-    ensures { Wrote out.old out.new p (p + n) (p + n) (take n (drop at texts.now)) }
-{
-    let mut i = 0;
-    while i < n {
-        out[p + i] = texts[at + i];
-        i += 1;
-    }
-}
-
-// Eight bytes: loaded before any is stored, so that it is one load and one store.
-fn eight(out: &mut [u8], p: usize, texts: &[u8], at: usize)
-    requires { TextFits (length texts.now) at 8 p (p + 8) (length out.old) }
-    ensures { Wrote out.old out.new p (p + 8) (p + 8) (take 8 (drop at texts.now)) }
-{
-    let a = texts[at];
-    let b = texts[at + 1];
-    let c = texts[at + 2];
-    let d = texts[at + 3];
-    let e = texts[at + 4];
-    let f = texts[at + 5];
-    let g = texts[at + 6];
-    let h = texts[at + 7];
-    put_eight(out, p, a, b, c, d, e, f, g, h);
-}
-
-fn put_eight(out: &mut [u8], p: usize, a: u8, b: u8, c: u8, d: u8, e: u8, f: u8, g: u8, h: u8)
-    requires { p + 8 ≤ length out.old }
-    ensures { Wrote out.old out.new p (p + 8) (p + 8) (a ∷ b ∷ c ∷ d ∷ e ∷ f ∷ g ∷ h ∷ []) }
-{
-    out[p] = a;
-    out[p + 1] = b;
-    out[p + 2] = c;
-    out[p + 3] = d;
-    out[p + 4] = e;
-    out[p + 5] = f;
-    out[p + 6] = g;
-    out[p + 7] = h;
+    out[p..p + n].copy_from_slice(&texts[at..at + n]);
+    p + n
 }

@@ -1,14 +1,11 @@
 -- `fields::be_u16` meets its contract. Assumes nothing.
-use native.Mathlib.Omega.{arith}
-use mathlib.Core.Path.{sym, ◌∙◌}
-use Rattle.fields.proofs.Laws.{there, field_is, field_eof}
+use mathlib.Core.Path.{◌∙◌}
+use Rattle.fields.proofs.Laws.{field_is, field_eof}
+use Rattle.fields.proofs.Std.{spelled-two}
 use Rattle.fields.proofs.be_u16.Goals as goal
 
-pub half-requires : goal.half-requires
-half-requires c = omega (arith, there 2 _ _ (sym c.has.ensures ∙ c.if-has.true))
+pub returns-in_err-bytes : goal.returns-in_err-bytes
+returns-in_err-bytes c = rw c.from_residual.ensures (field_eof 2 _ _ c.in_err-bytes.ensures)
 
-pub returns-then-has : goal.returns-then-has
-returns-then-has c = field_is _ _ _ (sym c.has.ensures ∙ c.if-has.true) c.half.ensures.0
-
-pub returns-else-has : goal.returns-else-has
-returns-else-has c = field_eof _ _ _ (sym c.has.ensures ∙ c.if-has.false)
+pub returns : goal.returns
+returns c = let (h, e) = c.in_ok-bytes.ensures in field_is 2 _ _ h (c.from_be_bytes.ensures ∙ spelled-two _ _ h e)

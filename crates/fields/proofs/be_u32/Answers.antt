@@ -1,14 +1,11 @@
 -- `fields::be_u32` meets its contract. Assumes nothing.
-use native.Mathlib.Omega.{arith}
-use mathlib.Core.Path.{sym, ◌∙◌}
-use Rattle.fields.proofs.Laws.{there, field_is, field_eof}
+use mathlib.Core.Path.{◌∙◌}
+use Rattle.fields.proofs.Laws.{field_is, field_eof}
+use Rattle.fields.proofs.Std.{spelled-four}
 use Rattle.fields.proofs.be_u32.Goals as goal
 
-pub word-requires : goal.word-requires
-word-requires c = omega (arith, there 4 _ _ (sym c.has.ensures ∙ c.if-has.true))
+pub returns-in_err-bytes : goal.returns-in_err-bytes
+returns-in_err-bytes c = rw c.from_residual.ensures (field_eof 4 _ _ c.in_err-bytes.ensures)
 
-pub returns-then-has : goal.returns-then-has
-returns-then-has c = field_is _ _ _ (sym c.has.ensures ∙ c.if-has.true) c.word.ensures.0
-
-pub returns-else-has : goal.returns-else-has
-returns-else-has c = field_eof _ _ _ (sym c.has.ensures ∙ c.if-has.false)
+pub returns : goal.returns
+returns c = let (h, e) = c.in_ok-bytes.ensures in field_is 4 _ _ h (c.from_be_bytes.ensures ∙ spelled-four _ _ h e)

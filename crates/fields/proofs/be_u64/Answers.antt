@@ -1,21 +1,11 @@
--- `fields::be_u64` meets its contract: two words side by side. Assumes nothing.
-use native.Mathlib.Omega.{arith}
-use native.Mathlib.Nat.{add_comm}
-use mathlib.Core.Path.{sym, ◌∙◌}
-use Rattle.fields.proofs.Laws.{there, field_is, field_eof, be_joined}
+-- `fields::be_u64` meets its contract. Assumes nothing.
+use mathlib.Core.Path.{◌∙◌}
+use Rattle.fields.proofs.Laws.{field_is, field_eof}
+use Rattle.fields.proofs.Std.{spelled-eight}
 use Rattle.fields.proofs.be_u64.Goals as goal
 
-pub overflow_add-at : goal.overflow_add-at
-overflow_add-at c = omega (arith, there 8 _ _ (sym c.has.ensures ∙ c.if-has.true))
+pub returns-in_err-bytes : goal.returns-in_err-bytes
+returns-in_err-bytes c = rw c.from_residual.ensures (field_eof 8 _ _ c.in_err-bytes.ensures)
 
-pub word-low-requires : goal.word-low-requires
-word-low-requires c = omega (arith, there 8 _ _ (sym c.has.ensures ∙ c.if-has.true))
-
-pub word-high-requires : goal.word-high-requires
-word-high-requires c = omega (arith, there 8 _ _ (sym c.has.ensures ∙ c.if-has.true))
-
-pub returns-then-has : goal.returns-then-has
-returns-then-has c = field_is _ _ _ (sym c.has.ensures ∙ c.if-has.true) (add_comm _ _ ∙ be_joined 4 4 _ _ _ _ (there 8 _ _ (sym c.has.ensures ∙ c.if-has.true)) c.word-high.ensures.0 c.word-low.ensures.0)
-
-pub returns-else-has : goal.returns-else-has
-returns-else-has c = field_eof _ _ _ (sym c.has.ensures ∙ c.if-has.false)
+pub returns : goal.returns
+returns c = let (h, e) = c.in_ok-bytes.ensures in field_is 8 _ _ h (c.from_be_bytes.ensures ∙ spelled-eight _ _ h e)

@@ -1,6 +1,8 @@
 -- `fields::u32_at` meets its contract. Assumes nothing.
-use Rattle.fields.proofs.Inverse.{number_is}
+use mathlib.Core.Path.{ap, ◌∙◌}
+use Rattle.std.specs.Option.{unwrap_or}
+use Rattle.fields.proofs.Laws.{known}
 use Rattle.fields.proofs.u32_at.Goals as goal
 
 pub returns : goal.returns
-returns c = number_is 4 _ _ (λ i. (c.type_inv.b i).fits) c.be_u32.ensures c.known.ensures
+returns c = c.unwrap_or.ensures ∙ ap (λ r. unwrap_or r 0) c.be_u32.ensures ∙ known 4 _ _

@@ -1,6 +1,8 @@
 -- `fields::u8_at` meets its contract. Assumes nothing.
-use Rattle.fields.proofs.Inverse.{number_is}
+use mathlib.Core.Path.{ap, ◌∙◌}
+use Rattle.std.specs.Option.{unwrap_or}
+use Rattle.fields.proofs.Laws.{known}
 use Rattle.fields.proofs.u8_at.Goals as goal
 
 pub returns : goal.returns
-returns c = number_is 1 _ _ (λ i. (c.type_inv.b i).fits) c.be_u8.ensures c.known.ensures
+returns c = c.unwrap_or.ensures ∙ ap (λ r. unwrap_or r 0) c.be_u8.ensures ∙ known 1 _ _

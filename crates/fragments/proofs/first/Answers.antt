@@ -1,13 +1,16 @@
 -- `fragments::first` meets its contract. Assumes nothing.
 use mathlib.Core.Path.{sym, ◌∙◌}
+use Rattle.numbers.proofs.Laws.{handed}
 use Rattle.fragments.proofs.Laws as law
 use Rattle.fragments.proofs.first.Goals as goal
 
-pub returns-in_default : goal.returns-in_default
-returns-in_default c = c.no_first.ensures ∙ law.no-count _ (sym c.opened-o.ensures ∙ c.in-Numbers.is) (sym c.be_u8.ensures ∙ c.in_default.is)
+pub returns-in_err-sequence : goal.returns-in_err-sequence
+returns-in_err-sequence c = handed _ c.from_residual.ensures ∙ law.first-no _ (sym c.in_err-sequence.ensures)
 
-pub returns-in-Is : goal.returns-in-Is
-returns-in-Is c = law.first-is _ (sym c.opened-o.ensures ∙ c.in-Numbers.is) (sym c.be_u8.ensures ∙ c.in-Is.is)
+pub returns-in_err-count : goal.returns-in_err-count
+returns-in_err-count c =
+    law.misses _ _ c.from_residual-in_err-count.ensures c.in_err-count.ensures.ok_part c.in_err-count.ensures.value
+    ∙ law.no-count _ (sym c.in_ok-sequence.ensures) (sym c.be_u8.ensures ∙ c.in_err-count.ensures.ok_part)
 
-pub returns-in-No : goal.returns-in-No
-returns-in-No c = c.no_first-in-No.ensures ∙ law.first-no _ (sym c.opened-o.ensures ∙ c.in-No.is)
+pub returns : goal.returns
+returns c = rw c.from.ensures (law.first-is _ (sym c.in_ok-sequence.ensures) (sym c.be_u8.ensures ∙ c.in_ok-count.ensures.ok_part))

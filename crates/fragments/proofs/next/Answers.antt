@@ -1,10 +1,11 @@
 -- `fragments::next` meets its contract. Assumes nothing.
 use mathlib.Core.Path.{sym, ◌∙◌}
+use Rattle.numbers.proofs.Laws.{handed}
 use Rattle.fragments.proofs.Laws as law
 use Rattle.fragments.proofs.next.Goals as goal
 
-pub returns-in-Numbers : goal.returns-in-Numbers
-returns-in-Numbers c = law.next-is _ (sym c.opened-o.ensures ∙ c.in-Numbers.is)
+pub returns-in_err-sequence : goal.returns-in_err-sequence
+returns-in_err-sequence c = handed _ c.from_residual.ensures ∙ law.next-no _ (sym c.in_err-sequence.ensures)
 
-pub returns-in-No : goal.returns-in-No
-returns-in-No c = law.next-no _ (sym c.opened-o.ensures ∙ c.in-No.is)
+pub returns : goal.returns
+returns c = law.next-is _ (sym c.in_ok-sequence.ensures)

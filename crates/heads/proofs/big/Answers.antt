@@ -4,4 +4,4 @@ use Rattle.heads.proofs.big.Goals as goal
 
 pub returns : goal.returns
 unfolding big
-returns c = rw c.u8_at-sign.ensures.0
+returns c = rw c.u8_at-sign.ensures

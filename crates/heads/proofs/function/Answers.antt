@@ -1,25 +1,25 @@
 -- `heads::function` meets its contract. Assumes nothing.
-use mathlib.Core.Path.{sym, ◌∙◌}
+use mathlib.Core.Path.{sym}
 use Rattle.fields.specs.Field.{number_then}
 use Rattle.heads.specs.Inner.Head.{function}
 use Rattle.heads.proofs.function.Goals as goal
 
-pub returns-in_default : goal.returns-in_default
+pub returns-in_err-size : goal.returns-in_err-size
 unfolding function number_then
-returns-in_default c = rw (sym c.be_u32.ensures ∙ c.in_default.is)
+returns-in_err-size c = rw (c.from_residual.ensures, sym c.in_err-size.ensures)
 
-pub returns-in_default-be_u8 : goal.returns-in_default-be_u8
+pub returns-in_err-arity : goal.returns-in_err-arity
 unfolding function number_then
-returns-in_default-be_u8 c = rw (sym c.be_u32.ensures ∙ c.in-Is.is, sym c.be_u8.ensures ∙ c.in_default-be_u8.is)
+returns-in_err-arity c = rw (c.from_residual-in_err-arity.ensures, sym c.in_ok-size.ensures, sym c.in_err-arity.ensures)
 
-pub returns-in_default-be_u32 : goal.returns-in_default-be_u32
+pub returns-in_err-index : goal.returns-in_err-index
 unfolding function number_then
-returns-in_default-be_u32 c = rw (sym c.be_u32.ensures ∙ c.in-Is.is, sym c.be_u8.ensures ∙ c.in-Is-be_u8.is, sym c.be_u32-2.ensures ∙ c.in_default-be_u32.is)
+returns-in_err-index c = rw (c.from_residual-in_err-index.ensures, sym c.in_ok-size.ensures, sym c.in_ok-arity.ensures, sym c.in_err-index.ensures)
 
-pub returns-in_default-be_u32-2 : goal.returns-in_default-be_u32-2
+pub returns-in_err-free : goal.returns-in_err-free
 unfolding function number_then
-returns-in_default-be_u32-2 c = rw (sym c.be_u32.ensures ∙ c.in-Is.is, sym c.be_u8.ensures ∙ c.in-Is-be_u8.is, sym c.be_u32-2.ensures ∙ c.in-Is-be_u32.is, sym c.be_u32-3.ensures ∙ c.in_default-be_u32-2.is)
+returns-in_err-free c = rw (c.from_residual-in_err-free.ensures, sym c.in_ok-size.ensures, sym c.in_ok-arity.ensures, sym c.in_ok-index.ensures, sym c.in_err-free.ensures)
 
 pub returns : goal.returns
 unfolding function number_then
-returns c = rw (sym c.be_u32.ensures ∙ c.in-Is.is, sym c.be_u8.ensures ∙ c.in-Is-be_u8.is, sym c.be_u32-2.ensures ∙ c.in-Is-be_u32.is, sym c.be_u32-3.ensures ∙ c.in-Is-be_u32-2.is)
+returns c = rw (sym c.in_ok-size.ensures, sym c.in_ok-arity.ensures, sym c.in_ok-index.ensures, sym c.in_ok-free.ensures)

@@ -1,21 +1,21 @@
 -- `heads::pid_numbers` meets its contract. Assumes nothing.
-use mathlib.Core.Path.{sym, ◌∙◌}
+use mathlib.Core.Path.{sym}
 use Rattle.fields.specs.Field.{number_then}
 use Rattle.heads.specs.Inner.Head.{pid_numbers}
 use Rattle.heads.proofs.pid_numbers.Goals as goal
 
-pub returns-in_default : goal.returns-in_default
+pub returns-in_err-id : goal.returns-in_err-id
 unfolding pid_numbers number_then
-returns-in_default c = rw (sym c.be_u32.ensures ∙ c.in_default.is)
+returns-in_err-id c = rw (c.from_residual.ensures, sym c.in_err-id.ensures)
 
-pub returns-in_default-be_u32 : goal.returns-in_default-be_u32
+pub returns-in_err-serial : goal.returns-in_err-serial
 unfolding pid_numbers number_then
-returns-in_default-be_u32 c = rw (sym c.be_u32.ensures ∙ c.in-Is.is, sym c.be_u32-2.ensures ∙ c.in_default-be_u32.is)
+returns-in_err-serial c = rw (c.from_residual-in_err-serial.ensures, sym c.in_ok-id.ensures, sym c.in_err-serial.ensures)
 
-pub returns-in_default-be_u32-2 : goal.returns-in_default-be_u32-2
+pub returns-in_err-creation : goal.returns-in_err-creation
 unfolding pid_numbers number_then
-returns-in_default-be_u32-2 c = rw (sym c.be_u32.ensures ∙ c.in-Is.is, sym c.be_u32-2.ensures ∙ c.in-Is-be_u32.is, sym c.be_u32-3.ensures ∙ c.in_default-be_u32-2.is)
+returns-in_err-creation c = rw (c.from_residual-in_err-creation.ensures, sym c.in_ok-id.ensures, sym c.in_ok-serial.ensures, sym c.in_err-creation.ensures)
 
 pub returns : goal.returns
 unfolding pid_numbers number_then
-returns c = rw (sym c.be_u32.ensures ∙ c.in-Is.is, sym c.be_u32-2.ensures ∙ c.in-Is-be_u32.is, sym c.be_u32-3.ensures ∙ c.in-Is-be_u32-2.is)
+returns c = rw (sym c.in_ok-id.ensures, sym c.in_ok-serial.ensures, sym c.in_ok-creation.ensures)

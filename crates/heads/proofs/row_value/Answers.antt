@@ -1,17 +1,17 @@
 -- `heads::row_value` meets its contract: a row that is there has its fields. Assumes nothing.
-use mathlib.Core.Path.{sym, ◌∙◌}
-use borrow.Author.Rules.{rules}
+use native.Mathlib.Omega.{arith}
+use mathlib.Core.Path.{sym}
 use Rattle.heads.specs.Inner.Head.{row_value}
 use Rattle.heads.proofs.Runs.{text-there}
 use Rattle.heads.proofs.row_value.Goals as goal
 
 pub fixed-requires : goal.fixed-requires
-fixed-requires c = (search rules, text-there _ _ _ _ (sym c.row_at-r.ensures ∙ c.in-To.is))
+fixed-requires c = (omega arith, text-there _ _ _ _ (sym c.in-Ok.ensures))
 
-pub returns-in-To : goal.returns-in-To
+pub returns-in-Ok : goal.returns-in-Ok
 unfolding row_value
-returns-in-To c = c.fixed.ensures ∙ rw (sym c.row_at-r.ensures ∙ c.in-To.is)
+returns-in-Ok c = rw (c.fixed.ensures, ← c.in-Ok.ensures)
 
-pub returns-in-No : goal.returns-in-No
+pub returns-in-Err : goal.returns-in-Err
 unfolding row_value
-returns-in-No c = rw (sym c.row_at-r.ensures ∙ c.in-No.is)
+returns-in-Err c = rw (← c.in-Err.ensures)

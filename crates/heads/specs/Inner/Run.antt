@@ -1,41 +1,25 @@
--- The kinds of answers of heads that the others go by: a name, the bytes of a binary, a refusal, and all others; and what follows of them.
-use Rattle.std.specs.Prelude.{ℕ, List, take, drop}
+-- The run of bytes that a head names, and what follows of it.
+use Rattle.std.specs.Prelude.{ℕ, ◌+◌, ◌≤◌, List, take, drop, length, Option, Some, None, Result, Ok}
 use Rattle.heads.specs.declared.Value.{Value}
 use Rattle.heads.specs.declared.Value.TheVariants as value
+use Rattle.heads.specs.declared.Refused.{Refused}
+use Rattle.heads.specs.declared.Run.{Run}
 
--- a run of bytes by its place and its length, a refusal, or neither
-pub data Run : Type 0 where
-  name bytes : (place length : ℕ) → Run
-  refusal : (number offset extra : ℕ) → Run
-  none : Run
+-- "an atom's or binary's (tag 109)"; of no other
+abbrev pub run_of : Result Value Refused → Option Run
+run_of (Ok (value.Atom r)) = Some r
+run_of (Ok (value.Binary r)) = Some r
+run_of other = None
 
-abbrev pub run_of : Value → Run
-run_of (value.Atom s n) = name s n
-run_of (value.Binary s n) = bytes s n
-run_of (value.Integer z) = none
-run_of (value.NumberText p n) = none
-run_of (value.Double x n) = none
-run_of (value.Tuple n) = none
-run_of value.Nil = none
-run_of (value.String p n) = none
-run_of (value.List n) = none
-run_of (value.BitString p n k) = none
-run_of (value.Big p n s g) = none
-run_of (value.Map n) = none
-run_of (value.Pid p n i j k) = none
-run_of (value.Reference i p n j q) = none
-run_of (value.Port p n i j) = none
-run_of value.Export = none
-run_of (value.Function i j p k l) = none
-run_of (value.No n o x) = refusal n o x
+-- its place and its length
+abbrev pub placed : Option Run → ℕ × ℕ
+placed (Some r) = (r.at, r.len)
+placed None = (0, 0)
 
--- the place and the length of an atom's name or of a binary; of no other
-abbrev pub placed : Run → ℕ × ℕ
-placed (name s n) = (s, n)
-placed (bytes s n) = (s, n)
-placed (refusal n o x) = (0, 0)
-placed none = (0, 0)
+-- it lies within the input
+abbrev pub inside : Run → List ℕ → Type 0
+inside r b = r.at + r.len ≤ length b
 
 -- "A second call returns an atom's or binary's (tag 109) part of the input, else an empty part"
-unfoldable pub part_of : List ℕ → Run → List ℕ
+unfoldable pub part_of : List ℕ → Option Run → List ℕ
 part_of b r = take (placed r).1 (drop (placed r).0 b)

@@ -1,12 +1,12 @@
 -- `jig::answer` meets its contract: with no segment no word is written. Assumes nothing.
-use mathlib.Core.Path.{refl}
-use Rattle.jig.specs.Shown.{segments, path_words}
+use mathlib.Core.Path.{refl, sym}
+use Rattle.jig.specs.Shown.{segment_words, path_words}
 use Rattle.jig.proofs.answer.Goals as goal
 
-pub returns-then-n-ne0 : goal.returns-then-n-ne0
-unfolding path_words
-returns-then-n-ne0 c = record { shows = refl; traces = c.trace.ensures }
+pub returns-in-Ok-clause-traces : goal.returns-in-Ok-clause-traces
+unfolding path_words segment_words
+returns-in-Ok-clause-traces c = rw c.in-Ok.is refl
 
-pub returns-else-n-ne0 : goal.returns-else-n-ne0
-unfolding path_words segments
-returns-else-n-ne0 c = record { shows = refl; traces = rw c.if-n-ne0.false }
+pub returns-in-Err-clause-traces : goal.returns-in-Err-clause-traces
+unfolding path_words
+returns-in-Err-clause-traces c = rw (c.in-Err.is, sym c.as_slice.ensures) c.trace.ensures

@@ -1,12 +1,9 @@
 -- The invariant, in words, stands in Answers.antt.
-use mathlib.Core.Path.{◌≡◌}
-use Prim.Native.Nat.{◌-◌, ◌*◌, ◌≤◌}
-use lib.Seq.{sets}
-use Rattle.jig.specs.Shown.{segments}
+use Rattle.std.proofs.Common.{◌≡◌, ◌*◌}
+use Rattle.std.proofs.Math.ListN.{drop}
+use Rattle.std.proofs.lemmas.List.Edits.{sets}
+use Rattle.jig.specs.Shown.{segment_words}
 use Rattle.jig.proofs.trace.Given as goal
 
 abbrev pub invariant-loop-i : goal.invariant-loop-i
-invariant-loop-i l = (l.i ≤ l.n) × (sets l.path (l.i * 2) (segments l.segments (l.n - l.i) l.i) ≡ sets l.initial.path 0 (segments l.segments l.n 0))
-
-abbrev pub decreases-loop-i : goal.decreases-loop-i
-decreases-loop-i l = l.n - l.i
+invariant-loop-i l = sets l.path (l.i * 2) (segment_words (drop l.i l.segments)) ≡ sets l.initial.path 0 (segment_words l.segments)

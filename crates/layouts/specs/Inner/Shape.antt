@@ -1,5 +1,5 @@
 -- Where the children of a term that is known to be one lie: what its first bytes say of it.
-use Rattle.std.specs.Prelude.{ℕ, ◌+◌, ◌*◌, List, cond, ◌||◌, ◌&&◌, eqb, ltb, leb, length, get_or}
+use Rattle.std.specs.Prelude.{ℕ, ◌+◌, ◌*◌, ◌≡◌, ◌<◌, ◌≤◌, List, Bool, cond, ◌||◌, ◌&&◌, eqb, ltb, leb, length, get_or, Option, Some, None}
 use Rattle.numbers.specs.Caps as cap
 use Rattle.fields.specs.Field.{number_at}
 use Rattle.layouts.specs.declared.Shape.{Shape}
@@ -36,9 +36,18 @@ shape_by b p tag =
     (cond (eqb tag 82) (ends (p + 2))
     (ends p)))))))))))))))))))
 
+-- whether a place is within an input that reading takes, and a tag that stands at such a place
+unfoldable pub inside : List ℕ → ℕ → Bool
+inside b p = ltb p (length b) && leb (length b) cap.input
+
+pub record IsTagAt (b : List ℕ) (p tag : ℕ) : Type 0 where
+  pub within : p < length b
+  pub short : length b ≤ cap.input
+  pub is : tag ≡ get_or b p 0
+
 -- the shape of the term at p. Past the end, and in an input longer than reading takes, it says nothing of use: so no sum is too large
 unfoldable pub shape_at : List ℕ → ℕ → Shape
-shape_at b p = cond (ltb p (length b) && leb (length b) cap.input) (shape_by b p (get_or b p 0)) (ends p)
+shape_at b p = cond (inside b p) (shape_by b p (get_or b p 0)) (ends p)
 
 -- what stands between a tree's tag and its children
 abbrev pub front_of : Tree → List ℕ
@@ -48,17 +57,17 @@ front_of (node tag front kids back) = front
 abbrev pub shape_of : Tree → ℕ → Shape
 shape_of (node tag front kids back) p = inner (p + 1 + length front) (count kids) (length back)
 
--- the end of one of the commonest terms without children, by its tag; 0 says nothing
-unfoldable pub short_by : List ℕ → ℕ → ℕ → ℕ
+-- the end of one of the commonest terms without children, by its tag; none says nothing
+unfoldable pub short_by : List ℕ → ℕ → ℕ → Option ℕ
 short_by b p tag =
-    cond (eqb tag 97) (p + 2)
-    (cond (eqb tag 98) (p + 5)
-    (cond (eqb tag 70) (p + 9)
-    (cond (eqb tag 106) (p + 1)
-    (cond (eqb tag 119) (p + 2 + number_at 1 b (p + 1))
-    (cond (eqb tag 109) (p + 5 + number_at 4 b (p + 1))
-    (cond (eqb tag 82) (p + 2)
-    0))))))
+    cond (eqb tag 97) (Some (p + 2))
+    (cond (eqb tag 98) (Some (p + 5))
+    (cond (eqb tag 70) (Some (p + 9))
+    (cond (eqb tag 106) (Some (p + 1))
+    (cond (eqb tag 119) (Some (p + 2 + number_at 1 b (p + 1)))
+    (cond (eqb tag 109) (Some (p + 5 + number_at 4 b (p + 1)))
+    (cond (eqb tag 82) (Some (p + 2))
+    None))))))
 
-unfoldable pub short_at : List ℕ → ℕ → ℕ
-short_at b p = cond (ltb p (length b) && leb (length b) cap.input) (short_by b p (get_or b p 0)) 0
+unfoldable pub short_at : List ℕ → ℕ → Option ℕ
+short_at b p = cond (inside b p) (short_by b p (get_or b p 0)) None

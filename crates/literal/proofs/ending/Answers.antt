@@ -1,22 +1,21 @@
 -- `literal::ending` meets its contract: an exponent is e, a sign, and digits up to the end. Assumes nothing.
-use mathlib.Core.Path.{sym, ◌∙◌}
-use native.Mathlib.Omega.{arith}
-use borrow.Author.Tests.{not-true, not-false}
+use Rattle.std.proofs.Common.{arith}
+use Rattle.std.proofs.lemmas.Bool.Decides.{nat_tests}
 use Rattle.literal.proofs.Pieces as pieces
 use Rattle.literal.proofs.ending.Goals as goal
 
-pub returns-then-s-eq0 : goal.returns-then-s-eq0
-returns-then-s-eq0 c = pieces.no_power _ c.if-s-eq0.true
+pub returns-in-empty : goal.returns-in-empty
+returns-in-empty c = pieces.no_power _ (omega arith)
 
-pub returns-then-not-cased : goal.returns-then-not-cased
-returns-then-not-cased c = pieces.no_e _ (omega arith) (sym c.cased.ensures ∙ not-true _ c.if-not-cased.true-raw)
+pub returns-then-is_empty : goal.returns-then-is_empty
+returns-then-is_empty c =
+    let p = pieces.a_power c.args.s.now (omega arith) _ _ (grind arith) c.after_sign-t.ensures c.after_digits.ensures in
+    grind (arith, nat_tests)
 
-pub returns-then-u-gt0 : goal.returns-then-u-gt0
-returns-then-u-gt0 c =
-    let k = sym c.cased.ensures ∙ not-false _ c.if-not-cased.false-raw in
-    pieces.too_long _ (omega arith) _ _ k c.after_sign-t.ensures c.after_digits-u.ensures c.if-u-gt0.true
+pub returns-else-is_empty : goal.returns-else-is_empty
+returns-else-is_empty c =
+    let p = pieces.a_power c.args.s.now (omega arith) _ _ (grind arith) c.after_sign-t.ensures c.after_digits.ensures in
+    grind (arith, nat_tests)
 
-pub returns : goal.returns
-returns c =
-    let k = sym c.cased.ensures ∙ not-false _ c.if-not-cased.false-raw in
-    pieces.a_power _ (omega arith) _ _ k c.after_sign-t.ensures c.after_digits-u.ensures (omega arith)
+pub returns-in_default : goal.returns-in_default
+returns-in_default c = pieces.no_e c.args.s.now (omega arith) (λ e. grind arith) (λ e. grind arith)

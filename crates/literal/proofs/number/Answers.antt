@@ -1,33 +1,31 @@
 -- `literal::number` meets its contract: with a point after the first digits, and without. Assumes nothing.
-use native.Mathlib.Omega.{arith}
-use lib.ListN.{get_or-eq_default}
+use Rattle.std.proofs.Common.{◌∙◌, arith}
+use borrow.Author.Tests.{le-ltb}
 use Rattle.literal.proofs.Pieces as pieces
 use Rattle.literal.proofs.number.Goals as goal
-use Rattle.literal.proofs.number.Goals.{then-t-gt0+else-t-eq46, else-t-gt0}
+use Rattle.literal.proofs.number.Goals.{in_default-via-then-t-lt1, in_default-via-else-t-lt1+in_default-1}
 
-pub returns-then-s-u : goal.returns-then-s-u
-returns-then-s-u c =
-    let x = c.after_digits-t.ensures in
-    pieces.point_alone _ _ x _ c.if-t-eq46.true c.after_digits-u.ensures (omega arith)
+pub returns-then-u-s : goal.returns-then-u-s
+returns-then-u-s c = pieces.pointed _ _ c.after_digits-t.ensures _ (omega arith) c.after_digits-u.ensures c.if-u-s.true c.ending.ensures
 
-pub returns-then-t-eq46 : goal.returns-then-t-eq46
-returns-then-t-eq46 c =
-    let x = c.after_digits-t.ensures in
-    pieces.pointed _ _ x _ c.if-t-eq46.true c.after_digits-u.ensures
-    (omega arith) c.ending.ensures
+pub returns-else-u-s : goal.returns-else-u-s
+returns-else-u-s c = le-ltb _ _ c.if-u-s.false ∙ pieces.point_alone _ _ c.after_digits-t.ensures _ (omega arith) c.after_digits-u.ensures c.if-u-s.false
 
-pub returns-then-s-t : goal.returns-then-s-t
-returns-then-s-t c = pieces.no-digits _ _ c.after_digits-t.ensures
-    (λ e. elim c.if-t-gt0.branch [
-      | then-t-gt0+else-t-eq46 w ↦ w.if-t-eq46.false e
-      | else-t-gt0 w ↦ let l = w.if-t-gt0.false in omega (arith, get_or-eq_default c.after_digits-t.result.now 0 {n = 0} (omega (arith, l)))
+pub returns-then-t-s : goal.returns-then-t-s
+returns-then-t-s c =
+    pieces.plain _ _ c.after_digits-t.ensures
+    (λ e. elim c.in_default.branch [
+      | in_default-via-then-t-lt1 w ↦ grind (arith, pieces.no_first)
+      | in_default-via-else-t-lt1+in_default-1 w ↦ grind arith
     ])
-    c.if-s-t.true
+    c.if-t-s.true c.ending-then-t-s.ensures
 
-pub returns : goal.returns
-returns c = pieces.plain _ _ c.after_digits-t.ensures
-    (λ e. elim c.if-t-gt0.branch [
-      | then-t-gt0+else-t-eq46 w ↦ w.if-t-eq46.false e
-      | else-t-gt0 w ↦ let l = w.if-t-gt0.false in omega (arith, get_or-eq_default c.after_digits-t.result.now 0 {n = 0} (omega (arith, l)))
+pub returns-else-t-s : goal.returns-else-t-s
+returns-else-t-s c =
+    le-ltb _ _ c.if-t-s.false
+    ∙ pieces.no-digits _ _ c.after_digits-t.ensures
+    (λ e. elim c.in_default.branch [
+      | in_default-via-then-t-lt1 w ↦ grind (arith, pieces.no_first)
+      | in_default-via-else-t-lt1+in_default-1 w ↦ grind arith
     ])
-    c.if-s-t.false c.ending-2.ensures
+    c.if-t-s.false

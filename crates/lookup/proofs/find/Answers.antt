@@ -1,27 +1,25 @@
 -- `lookup::find` meets its contract: as reading refuses; else by the term that was read. Assumes nothing.
-use native.Mathlib.Omega.{arith}
-use Rattle.reading.proofs.Asked.{plain_read}
+use mathlib.Core.Path.{refl}
+use Rattle.reading.proofs.Asks.{plain_read}
+use Rattle.reading.proofs.Told.{err_refused}
 use Rattle.lookup.proofs.Keys.{is-inside}
 use Rattle.lookup.proofs.Looking.{passed_on, a_term, its_kids, not-map, is-map}
 use Rattle.lookup.proofs.find.Goals as goal
 
-pub returns-then-a-ne-DONE : goal.returns-then-a-ne-DONE
-returns-then-a-ne-DONE c = let a = c.args in passed_on a.b.now a.at a.limit (plain_read _ _ _ c.plainly.ensures c.read-a.ensures) _ c.if-a-ne-DONE.true
+pub returns-in_default : goal.returns-in_default
+returns-in_default c = passed_on _ _ _ (plain_read _ _ _ c.plainly.ensures c.read-a.ensures) _ (err_refused _ _ _ c.in_default.is)
 
 pub bounds-b-at : goal.bounds-b-at
-bounds-b-at c = let a = c.args in is-inside (a_term a.b.now a.at a.limit (plain_read _ _ _ c.plainly.ensures c.read-a.ensures) c.if-a-ne-DONE.false).is
-
-pub overflow_cast-tag : goal.overflow_cast-tag
-overflow_cast-tag c = omega (arith, c.type_inv.b c.args.at)
+bounds-b-at c = is-inside (a_term _ _ _ (rw c.in-Ok.is at (plain_read _ _ _ c.plainly.ensures c.read-a.ensures)) refl).is
 
 pub returns-then-tag-ne116 : goal.returns-then-tag-ne116
-returns-then-tag-ne116 c = let a = c.args in not-map a.b.now a.at a.limit (plain_read _ _ _ c.plainly.ensures c.read-a.ensures) c.if-a-ne-DONE.false _ _ c.if-tag-ne116.true c.refusal.ensures
+returns-then-tag-ne116 c = not-map _ _ _ (rw c.in-Ok.is at (plain_read _ _ _ c.plainly.ensures c.read-a.ensures)) refl _ _ c.if-tag-ne116.true c.refused.ensures
 
 pub last-requires : goal.last-requires
-last-requires c = let a = c.args in its_kids a.b.now a.at a.limit (plain_read _ _ _ c.plainly.ensures c.read-a.ensures) c.if-a-ne-DONE.false c.shape_at-s.result c.shape_at-s.ensures
+last-requires c = its_kids _ _ _ (rw c.in-Ok.is at (plain_read _ _ _ c.plainly.ensures c.read-a.ensures)) refl _ c.shape_at-s.ensures
 
-pub returns-in-At : goal.returns-in-At
-returns-in-At c = let a = c.args in rw c.in-At.is at (is-map a.b.now a.at a.limit (plain_read _ _ _ c.plainly.ensures c.read-a.ensures) c.if-a-ne-DONE.false _ c.shape_at-s.result c.last.result c.if-tag-ne116.false c.shape_at-s.ensures c.last.ensures)
+pub returns-in_default-last : goal.returns-in_default-last
+returns-in_default-last c = rw c.refused-in_default-last.ensures (rw c.in_default-last.is at (is-map _ _ _ (rw c.in-Ok.is at (plain_read _ _ _ c.plainly.ensures c.read-a.ensures)) refl _ _ _ c.if-tag-ne116.false c.shape_at-s.ensures c.last.ensures))
 
-pub returns-in-Nowhere : goal.returns-in-Nowhere
-returns-in-Nowhere c = let a = c.args in rw c.refusal-in-Nowhere.ensures (rw c.in-Nowhere.is at (is-map a.b.now a.at a.limit (plain_read _ _ _ c.plainly.ensures c.read-a.ensures) c.if-a-ne-DONE.false _ c.shape_at-s.result c.last.result c.if-tag-ne116.false c.shape_at-s.ensures c.last.ensures))
+pub returns : goal.returns
+returns c = rw c.in-Some.is at (is-map _ _ _ (rw c.in-Ok.is at (plain_read _ _ _ c.plainly.ensures c.read-a.ensures)) refl _ _ _ c.if-tag-ne116.false c.shape_at-s.ensures c.last.ensures)

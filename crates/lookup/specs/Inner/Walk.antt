@@ -1,20 +1,19 @@
 -- What the walk over a map's entries promises on the way: of terms that are known to stand at a place, in an input of a length that
 -- reading takes, so that nothing is judged again.
-use Rattle.std.specs.Prelude.{ℕ, ◌+◌, ◌≤◌, ◌≡◌, List, Bool, length}
+use Rattle.std.specs.Prelude.{ℕ, ◌+◌, ◌≤◌, ◌≡◌, List, Bool, Option, length}
 use Rattle.numbers.specs.Allowed.{plain}
 use Rattle.numbers.specs.Caps as cap
 use Rattle.layouts.specs.Tree.{Tree, Forest, count, bytes, bytes_all, Stands}
 use Rattle.layouts.specs.Layout.{Laid, AllLaid}
 use Rattle.lookup.specs.declared.Key as code
 use Rattle.lookup.specs.declared.Key.TheVariants as sought
-use Rattle.lookup.specs.declared.Place.{Place}
 use Rattle.lookup.specs.Lookup.{Key, name, number}
 use Rattle.lookup.specs.Inner.Found.{equal, found}
 
--- the key that the code is looking for: a name is passed beside it
-abbrev pub key_of : code.Key → List ℕ → Key
-key_of sought.Name s = name s
-key_of (sought.Number z) s = number z
+-- the key that the code is looking for
+abbrev pub key_of : code.Key → Key
+key_of (sought.Name s) = name s.now
+key_of (sought.Number z) = number z
 
 -- the term t stands at p; the n terms ts stand side by side from p on
 pub record Term (b : List ℕ) (p : ℕ) (t : Tree) : Type 0 where
@@ -46,5 +45,5 @@ pub record Judges (b : List ℕ) (p : ℕ) (k : Key) (r : Bool) : Type 0 where
   pub is : (t : Tree) → Term b p t → r ≡ equal k t
 
 -- r is where the value of the last equal key stands, among n keys and values from p on
-pub record Finds (b : List ℕ) (p n : ℕ) (k : Key) (r : Place) : Type 0 where
+pub record Finds (b : List ℕ) (p n : ℕ) (k : Key) (r : Option ℕ) : Type 0 where
   pub is : (ts : Forest) → Terms b p n ts → r ≡ found k p ts

@@ -2,12 +2,16 @@
 use Rattle.std.proofs.Common.{sym, ◌∙◌, arith}
 use Rattle.measure.proofs.Sizes as laws
 use Rattle.measure.proofs.binary.Goals as goal
-
-pub returns-then-n-gt-BINARY : goal.returns-then-n-gt-BINARY
-returns-then-n-gt-BINARY c = (laws.binary-long _ _ _ c.if-n-gt-BINARY.true, omega arith)
+use Rattle.measure.proofs.binary.Goals.{else-n-le-BINARY-via-then-n-le-BINARY+else-has, else-n-le-BINARY-via-else-n-le-BINARY}
 
 pub returns-then-has : goal.returns-then-has
-returns-then-has c = (laws.binary-good _ _ _ (sym c.has.ensures ∙ c.if-has.true) c.if-n-gt-BINARY.false, omega (arith, c.if-n-gt-BINARY.false))
+returns-then-has c = (laws.binary-good _ _ _ (sym c.has.ensures ∙ c.if-has.true) c.if-n-le-BINARY.true, omega (arith, c.if-n-le-BINARY.true))
 
 pub returns : goal.returns
-returns c = (laws.binary_outside _ _ _ (sym c.has.ensures ∙ c.if-has.false), omega arith)
+returns c = (
+  elim c.else-n-le-BINARY.branch [
+    | else-n-le-BINARY-via-then-n-le-BINARY+else-has w ↦ laws.binary_outside _ _ _ (sym w.has.ensures ∙ w.if-has.false)
+    | else-n-le-BINARY-via-else-n-le-BINARY w ↦ laws.binary-long _ _ _ w.if-n-le-BINARY.false
+  ],
+  tt,
+)

@@ -16,7 +16,7 @@ returns-then-kind-lt-ATOM c = laws.alone 2 (omega (arith, c.if-kind-lt-DOUBLE.fa
 
 pub returns-then-kind-lt-BINARY : goal.returns-then-kind-lt-BINARY
 unfolding item_of
-returns-then-kind-lt-BINARY c = laws.alone 3 (omega (arith, c.if-kind-lt-ATOM.false, c.if-kind-lt-BINARY.true)) _ _ _ (inl (omega arith)) c.name.ensures.0 (omega (arith, c.name.ensures.1))
+returns-then-kind-lt-BINARY c = laws.alone 3 (omega (arith, c.if-kind-lt-ATOM.false, c.if-kind-lt-BINARY.true)) _ _ _ (inl (omega arith)) c.name.ensures.0 (laws.looser _ (omega arith) c.name.ensures.1)
 
 pub returns-then-kind-lt-TUPLE : goal.returns-then-kind-lt-TUPLE
 unfolding item_of

@@ -59,32 +59,31 @@ pub overflow_add-i : goal.overflow_add-i
 overflow_add-i c = record { fits = omega (arith, laws.three _ _ c.loop-left.invariant c.if-left-lt2.false c.if-i-row-2.false, c.well_formed.0.0, c.well_formed.0.1) }
 
 pub overflow_add-size : goal.overflow_add-size
-overflow_add-size c = omega (arith, c.loop-left.invariant.short, c.leaf-alone.ensures.small)
+overflow_add-size c = omega (arith, c.loop-left.invariant.short, c.in-Some.ensures.small)
 
 pub returns-then-size-gt-INPUT : goal.returns-then-size-gt-INPUT
-returns-then-size-gt-INPUT c = laws.too_long _ _ c.loop-left.invariant c.if-left-lt2.false c.if-i-row-2.false (omega (arith, coming.alone_bytes _ _ _ _ c.leaf-alone.ensures c.if-alone-ne0.true))
+returns-then-size-gt-INPUT c = laws.too_long _ _ c.loop-left.invariant c.if-left-lt2.false c.if-i-row-2.false (omega (arith, coming.alone_bytes _ _ _ _ c.in-Some.ensures))
 
-pub loop-left-smaller-then-alone-ne0 : goal.loop-left-smaller-then-alone-ne0
-loop-left-smaller-then-alone-ne0 c = omega (arith, laws.three _ _ c.loop-left.invariant c.if-left-lt2.false c.if-i-row-2.false)
+pub loop-left-smaller-in-Some : goal.loop-left-smaller-in-Some
+loop-left-smaller-in-Some c = omega (arith, laws.three _ _ c.loop-left.invariant c.if-left-lt2.false c.if-i-row-2.false)
 
-pub loop-left-preserved-then-alone-ne0 : goal.loop-left-preserved-then-alone-ne0
-loop-left-preserved-then-alone-ne0 c =
-    let a = c.leaf-alone.ensures in
-    let s = c.if-alone-ne0.true in
-    laws.past _ _ c.loop-left.invariant c.if-left-lt2.false c.if-i-row-2.false (coming.alone_allowed _ _ _ _ a s) (coming.alone_bytes _ _ _ _ a s) (coming.alone_over _ _ _ _ a s) c.if-size-gt-INPUT.false
+pub loop-left-preserved-in-Some : goal.loop-left-preserved-in-Some
+loop-left-preserved-in-Some c =
+    let a = c.in-Some.ensures in
+    laws.past _ _ c.loop-left.invariant c.if-left-lt2.false c.if-i-row-2.false (coming.alone_allowed _ _ _ _ a) (coming.alone_bytes _ _ _ _ a) (coming.alone_over _ _ _ _ a) c.if-size-gt-INPUT.false
 
-pub returns-then-own-eq0 : goal.returns-then-own-eq0
-returns-then-own-eq0 c = laws.wrong _ _ c.loop-left.invariant c.if-left-lt2.false c.if-i-row-2.false (coming.neither _ _ _ _ (rw c.if-alone-ne0.false at c.leaf-alone.ensures) (rw c.if-own-eq0.true at c.parent-own.ensures))
+pub returns-in_default-parent : goal.returns-in_default-parent
+returns-in_default-parent c = laws.wrong _ _ c.loop-left.invariant c.if-left-lt2.false c.if-i-row-2.false (coming.neither _ _ _ _ c.in_default.ensures c.in_default-parent.ensures)
 
 pub overflow_add-size-in-loop-left : goal.overflow_add-size-in-loop-left
-overflow_add-size-in-loop-left c = omega (arith, c.loop-left.invariant.short, c.parent-own.ensures.small)
+overflow_add-size-in-loop-left c = omega (arith, c.loop-left.invariant.short, c.in-Some-parent.ensures.small)
 
 pub returns-then-size-gt-INPUT-2 : goal.returns-then-size-gt-INPUT-2
-returns-then-size-gt-INPUT-2 c = laws.too_long _ _ c.loop-left.invariant c.if-left-lt2.false c.if-i-row-2.false (omega (arith, coming.around_bytes c.args.texts.now _ _ (get_or c.args.row.now (c.loop-left.i + 2) 0) c.parent-own.ensures c.if-own-eq0.false))
+returns-then-size-gt-INPUT-2 c = laws.too_long _ _ c.loop-left.invariant c.if-left-lt2.false c.if-i-row-2.false (omega (arith, coming.around_bytes c.args.texts.now _ _ (get_or c.args.row.now (c.loop-left.i + 2) 0) c.in-Some-parent.ensures))
 
 pub returns-then-depth : goal.returns-then-depth
 returns-then-depth c =
-    let a = coming.around_allowed c.args.texts.now _ _ (get_or c.args.row.now (c.loop-left.i + 2) 0) c.parent-own.ensures c.if-own-eq0.false in
+    let a = coming.around_allowed c.args.texts.now _ _ (get_or c.args.row.now (c.loop-left.i + 2) 0) c.in-Some-parent.ensures in
     let (k, t) = coming.halves _ (coming.owed_is _ _ _ _ a) in
     laws.too_deep _ _ c.loop-left.invariant c.if-left-lt2.false c.if-i-row-2.false (omega (arith, c.if-depth.true)) (omega (arith, c.owes-kids.ensures, c.if-kids-ne0.true))
 
@@ -103,8 +102,9 @@ loop-left-smaller-then-kids-ne0 c = omega (arith, laws.three _ _ c.loop-left.inv
 pub loop-left-preserved-then-kids-ne0 : goal.loop-left-preserved-then-kids-ne0
 loop-left-preserved-then-kids-ne0 c =
     let y = get_or c.args.row.now (c.loop-left.i + 2) 0 in
-    let a = coming.around_allowed c.args.texts.now _ _ y c.parent-own.ensures c.if-own-eq0.false in
-    laws.into _ _ c.loop-left.invariant c.if-left-lt2.false c.if-i-row-2.false a (coming.around_bytes _ _ _ y c.parent-own.ensures c.if-own-eq0.false) (rw c.owes-kids.ensures (coming.owed_is _ _ _ _ a)) (omega (arith, c.if-depth.false)) c.if-size-gt-INPUT-2.false
+    let b = c.in-Some-parent.ensures in
+    let a = coming.around_allowed c.args.texts.now _ _ y b in
+    laws.into _ _ c.loop-left.invariant c.if-left-lt2.false c.if-i-row-2.false a (coming.around_bytes _ _ _ y b) (rw c.owes-kids.ensures (coming.owed_is _ _ _ _ a)) (omega (arith, c.if-depth.false)) c.if-size-gt-INPUT-2.false
 
 pub loop-left-smaller : goal.loop-left-smaller
 loop-left-smaller c = omega (arith, laws.three _ _ c.loop-left.invariant c.if-left-lt2.false c.if-i-row-2.false)
@@ -112,6 +112,7 @@ loop-left-smaller c = omega (arith, laws.three _ _ c.loop-left.invariant c.if-le
 pub loop-left-preserved : goal.loop-left-preserved
 loop-left-preserved c =
     let y = get_or c.args.row.now (c.loop-left.i + 2) 0 in
-    let a = coming.around_allowed c.args.texts.now _ _ y c.parent-own.ensures c.if-own-eq0.false in
+    let b = c.in-Some-parent.ensures in
+    let a = coming.around_allowed c.args.texts.now _ _ y b in
     let e = sym c.owes-kids.ensures ∙ c.if-kids-ne0.false in
-    laws.past _ _ c.loop-left.invariant c.if-left-lt2.false c.if-i-row-2.false a (coming.around_over _ _ _ y c.parent-own.ensures c.if-own-eq0.false e) (coming.over _ _ _ y a e) c.if-size-gt-INPUT-2.false
+    laws.past _ _ c.loop-left.invariant c.if-left-lt2.false c.if-i-row-2.false a (coming.around_over _ _ _ y b e) (coming.over _ _ _ y a e) c.if-size-gt-INPUT-2.false

@@ -1,5 +1,5 @@
 -- An item's own bytes: those before its children, and those behind them.
-use Rattle.std.specs.Prelude.{◌≡◌, ℕ, ◌+◌, ◌*◌, ◌<◌, ◌≤◌, cond, ◌⊎◌, List, [], ◌∷◌, length, ◌==◌, nat_le}
+use Rattle.std.specs.Prelude.{◌≡◌, ℕ, ◌+◌, ◌*◌, ◌<◌, ◌≤◌, cond, ◌⊎◌, List, [], ◌∷◌, length, ◌==◌, nat_le, Option, Some, None, IfSome}
 use Rattle.numbers.specs.Caps as cap
 use Rattle.layouts.specs.Tree.{Tree, node, none}
 use Rattle.measure.specs.Item.{Item, integer, double, atom, binary, tuple, list, map, nil, wrong, item_of, allowed}
@@ -23,9 +23,9 @@ tail_of (map n) = []
 tail_of nil = []
 tail_of wrong = []
 
--- how many they are; 0 where the item isn't allowed
-unfoldable pub own_of : Item → ℕ
-own_of i = cond (allowed i) (length (head_of i) + length (tail_of i)) 0
+-- how many they are; None where the item isn't allowed
+unfoldable pub own_of : Item → Option ℕ
+own_of i = cond (allowed i) (Some (length (head_of i) + length (tail_of i))) None
 
 -- the kinds of items that have children
 abbrev pub Parent : ℕ → Type 0
@@ -34,17 +34,17 @@ Parent kind = (5 ≤ kind) × (kind ≤ 7)
 abbrev pub Leaf : ℕ → Type 0
 Leaf kind = (kind < 5) ⊎ (7 < kind)
 
--- r is so many of an item without children, and 0 of any other
-pub record Alone (i : Item) (kind r : ℕ) : Type 0 where
+-- r is so many of an item without children, and None of any other
+pub record Alone (i : Item) (kind : ℕ) (r : Option ℕ) : Type 0 where
   pub is : Leaf kind → r ≡ own_of i
-  pub other : Parent kind → r ≡ 0
-  pub small : r ≤ 100000005
+  pub other : Parent kind → r ≡ None
+  pub small : IfSome r (λ n. n ≤ 100000005)
 
--- r is so many of an item with children, whatever the texts and the field that it doesn't use, and 0 of any other
-pub record Around (kind x r : ℕ) : Type 0 where
+-- r is so many of an item with children, whatever the texts and the field that it doesn't use, and None of any other
+pub record Around (kind x : ℕ) (r : Option ℕ) : Type 0 where
   pub is : Parent kind → (texts : List ℕ) (y : ℕ) → r ≡ own_of (item_of texts kind x y)
-  pub other : Leaf kind → r ≡ 0
-  pub small : r ≤ 6
+  pub other : Leaf kind → r ≡ None
+  pub small : IfSome r (λ n. n ≤ 6)
 
 -- what is still to come behind an item's first bytes: its children by twos, and one for a tail. Above the caps, where it is asked of no item, it counts
 -- no child

@@ -1,26 +1,57 @@
--- `message::headed` meets its contract: by the segments, by what became of the header's names, and then by the term's answer. Assumes nothing.
-use native.Mathlib.Omega.{arith}
-use mathlib.Core.Path.{refl, ap, sym, ◌∙◌}
-use borrow.Author.Tests.{not-true, not-false}
+-- `message::headed` meets its contract: what is refused before the header, by how that begins, by its segments, and by what becomes of its names.
+-- Assumes nothing.
+use mathlib.Core.Path.{◌≡◌, ap, sym, ◌∙◌}
+use Rattle.std.specs.Prelude.{Err}
+use Rattle.numbers.specs.declared.Refusal.TheVariants as refusal
+use Rattle.numbers.proofs.Laws.{handed}
 use Rattle.references.proofs.Halves.{start-there}
 use Rattle.header.specs.declared.HeaderRead.{HeaderRead}
+use Rattle.names.specs.Form.{left}
+use Rattle.header.proofs.Leaving.{of}
+use Rattle.message.specs.Message.{message_over}
 use Rattle.message.proofs.Laws as laws
+use Rattle.message.proofs.Laws.{stopped, by_answer, starts-behind, all_there}
 use Rattle.message.proofs.headed.Goals as goal
+use Rattle.message.proofs.headed.Goals.{then-limit-eq0-via-then-limit-eq0, then-limit-eq0-via-else-limit-eq0+then-limit-gt-NESTING}
+
+pub returns-then-limit-eq0 : goal.returns-then-limit-eq0
+returns-then-limit-eq0 c = stopped _ limited
+  where
+    limited : message_over c.args.b.now c.args.limit c.args.cache.now c.args.store.now ≡ left (Err refusal.Limit) (of c.args.cache.now c.args.store.now)
+    limited =
+        elim c.then-limit-eq0.branch [
+          | then-limit-eq0-via-then-limit-eq0 w ↦ laws.limit_none _ _ _ _ w.if-limit-eq0.true
+          | then-limit-eq0-via-else-limit-eq0+then-limit-gt-NESTING w ↦ laws.limit_over _ _ _ _ w.if-limit-eq0.false w.if-limit-gt-NESTING.true
+        ]
+
+pub returns-then-store-ne-STORE_BYTES : goal.returns-then-store-ne-STORE_BYTES
+returns-then-store-ne-STORE_BYTES c = stopped _ (laws.no_store _ _ _ _ c.if-limit-eq0.false c.if-limit-gt-NESTING.false c.if-store-ne-STORE_BYTES.true)
+
+pub returns-in_err-opening : goal.returns-in_err-opening
+returns-in_err-opening c =
+    rw (handed _ c.from_residual.ensures)
+    (stopped _ (laws.begins_wrong _ _ _ _ c.if-limit-eq0.false c.if-limit-gt-NESTING.false c.if-store-ne-STORE_BYTES.false (sym c.in_err-opening.ensures)))
 
 pub returns-then-not-one_segment : goal.returns-then-not-one_segment
-returns-then-not-one_segment c = let p = c.requires in let both = laws.parts (laws.stopped _ _ _ _ _ (laws.other-segment _ _ _ _ (λ z. omega arith) p.1.0 p.1.1.0 p.1.1.1 (sym c.one_segment.ensures ∙ not-true _ c.if-not-one_segment.true-raw)) (λ z. omega arith) c.refused.ensures) in record { answer = both.0; cache = both.1.0; store = both.1.1.0; run = both.1.1.1 }
+returns-then-not-one_segment c =
+    stopped _ (laws.other-segment _ _ _ _ c.if-limit-eq0.false c.if-limit-gt-NESTING.false c.if-store-ne-STORE_BYTES.false (sym c.in_ok-opening.ensures)
+    (sym c.one_segment.ensures ∙ c.if-not-one_segment.true))
 
-pub names-h-requires : goal.names-h-requires
-names-h-requires c =
-    let f = start-there _ (λ k. (c.type_inv.b k).fits) c.requires.1.1.1 in
-    (f.0, (f.1, c.requires.1.1.0))
+pub names-header-requires-clause-flags : goal.names-header-requires-clause-flags
+names-header-requires-clause-flags c = start-there _ (λ k. (c.type_inv.b k).fits) (sym c.in_ok-opening.ensures)
 
-pub returns-then-h-ne-DONE : goal.returns-then-h-ne-DONE
-returns-then-h-ne-DONE c = let p = c.requires in let e = laws.by_header _ _ _ _ (λ z. omega arith) p.1.0 p.1.1.0 p.1.1.1 (sym c.one_segment.ensures ∙ not-false _ c.if-not-one_segment.false-raw) in let both = laws.parts (laws.by_refused _ _ e c.names-h.ensures.answer _ c.names-h.ensures.store c.if-h-ne-DONE.true c.refused-then-h-ne-DONE.ensures) in record { answer = both.0; cache = both.1.0; store = both.1.1.0; run = both.1.1.1 }
+pub returns-in_err-start : goal.returns-in_err-start
+returns-in_err-start c =
+    let e = laws.by_header _ _ _ _ c.if-limit-eq0.false c.if-limit-gt-NESTING.false c.if-store-ne-STORE_BYTES.false (sym c.in_ok-opening.ensures) (sym c.one_segment.ensures ∙ c.if-not-one_segment.false) in
+    rw (handed _ c.from_residual-in_err-start.ensures) (stopped _ (rw c.in_err-start.was at (by_answer e c.names-header.ensures.answer c.names-header.ensures.store)))
 
 pub note-known-requires : goal.note-known-requires
 note-known-requires c =
-    laws.all_there _ _ (λ k. (c.type_inv.b k).fits) c.requires.1.1.1 (ap (λ (r : HeaderRead). r.number) (sym c.names-h.ensures.answer) ∙ c.if-h-ne-DONE.false)
+    all_there _ c.args.cache.now c.args.store.now (λ k. (c.type_inv.b k).fits) (sym c.in_ok-opening.ensures)
+    (ap (λ (r : HeaderRead). r.rest) (sym c.names-header.ensures.answer) ∙ c.in_ok-start.was)
 
 pub returns : goal.returns
-returns c = let p = c.requires in let e = laws.by_header _ _ _ _ (λ z. omega arith) p.1.0 p.1.1.0 p.1.1.1 (sym c.one_segment.ensures ∙ not-false _ c.if-not-one_segment.false-raw) in let both = laws.parts (laws.by_accepted _ _ e c.names-h.ensures.answer _ c.names-h.ensures.store c.note-known.result c.if-h-ne-DONE.false p.1.1.1 c.note-known.ensures.bits.0 c.note-known.ensures.bits.1 c.behind-a.ensures refl c.note-known.ensures.run) in record { answer = both.0; cache = both.1.0; store = both.1.1.0; run = both.1.1.1 }
+returns c =
+    let e = laws.by_header _ _ _ _ c.if-limit-eq0.false c.if-limit-gt-NESTING.false c.if-store-ne-STORE_BYTES.false (sym c.in_ok-opening.ensures) (sym c.one_segment.ensures ∙ c.if-not-one_segment.false) in
+    starts-behind (sym c.in_ok-opening.ensures) (rw c.in_ok-start.was at (by_answer e c.names-header.ensures.answer c.names-header.ensures.store))
+    c.note-known.ensures.run c.note-known.ensures.bits.0 c.note-known.ensures.bits.1

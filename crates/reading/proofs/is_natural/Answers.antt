@@ -1,21 +1,25 @@
 -- `reading::is_natural` meets its contract. Assumes nothing.
-use borrow.Author.Tests.{ne_eqb, eq-eqb}
-use lib.ListN.{get_or-eq_default}
+use native.Mathlib.Omega.{arith}
+use mathlib.Core.Path.{sym, ◌∙◌}
+use Rattle.numbers.proofs.Laws.{none_of}
+use Rattle.fields.proofs.Laws.{byte_at, some_there}
 use Rattle.reading.specs.Terms.{is_natural}
 use Rattle.reading.proofs.is_natural.Goals as goal
 
-pub returns-then-b-at : goal.returns-then-b-at
-unfolding is_natural
-returns-then-b-at c = rw (get_or-eq_default c.args.b.now 0 c.if-b-at.true)
+pub overflow_add-at : goal.overflow_add-at
+overflow_add-at c = omega (arith, some_there 1 c.args.b.now c.args.at)
 
-pub returns-then-tag-eq97 : goal.returns-then-tag-eq97
-unfolding is_natural
-returns-then-tag-eq97 c = rw (c.u8_at.ensures.0, eq-eqb _ 97 c.if-tag-eq97.true)
+pub overflow_add-at-in-98 : goal.overflow_add-at-in-98
+overflow_add-at-in-98 c = omega (arith, some_there 1 c.args.b.now c.args.at)
 
-pub returns-then-tag-eq98 : goal.returns-then-tag-eq98
+pub returns-in-97 : goal.returns-in-97
 unfolding is_natural
-returns-then-tag-eq98 c = rw (c.u32_at.ensures.0, ne_eqb _ 97 c.if-tag-eq97.false, eq-eqb _ 98 c.if-tag-eq98.true)
+returns-in-97 c = rw (sym (byte_at _ _) ∙ sym c.u8_at.ensures ∙ c.in-97.is, c.from.ensures, c.u8_at-in-97.ensures)
 
-pub returns : goal.returns
+pub returns-in-98 : goal.returns-in-98
 unfolding is_natural
-returns c = rw (ne_eqb _ 97 c.if-tag-eq97.false, ne_eqb _ 98 c.if-tag-eq98.false)
+returns-in-98 c = rw (sym (byte_at _ _) ∙ sym c.u8_at.ensures ∙ c.in-98.is, c.from-in-98.ensures, c.u32_at.ensures)
+
+pub returns-in_default : goal.returns-in_default
+unfolding is_natural
+returns-in_default c = rw (sym (byte_at _ _) ∙ sym c.u8_at.ensures) (search none_of)

@@ -1,18 +1,19 @@
--- `references::named` meets its contract. Assumes nothing.
+-- `references::named` meets its contract: bytes of ASCII are a name. Assumes nothing.
 use mathlib.Core.Path.{sym, ◌∙◌}
-use Rattle.fields.proofs.Laws.{is-there}
+use Rattle.numbers.proofs.Laws.{handed}
 use Rattle.rows.proofs.Laws.{name-good}
+use Rattle.fields.proofs.Laws.{is-there}
 use Rattle.utf8.proofs.Laws.{ascii_good}
 use Rattle.references.proofs.Reading.{named-to, named-no}
 use Rattle.references.proofs.named.Goals as goal
 
-pub returns-then-ascii : goal.returns-then-ascii
-returns-then-ascii c =
-    let f = c.ascii.ensures.0 c.if-ascii.true in
+pub returns-in_err-name : goal.returns-in_err-name
+returns-in_err-name c = handed _ c.from_residual.ensures ∙ named-no _ _ _ _ (sym c.in_err-name.ensures)
+
+pub returns-in_ok-name : goal.returns-in_ok-name
+returns-in_ok-name c = named-to _ _ _ _ (sym c.in_ok-name.ensures)
+
+pub returns-else-not-ascii : goal.returns-else-not-ascii
+returns-else-not-ascii c =
+    let f = c.ascii.ensures.0 c.if-not-ascii.false in
     named-to _ _ _ _ (sym (name-good _ _ _ (is-there _ _ _ f.within) (ascii_good f)))
-
-pub returns-in-To : goal.returns-in-To
-returns-in-To c = named-to _ _ _ _ (sym c.name-row.ensures ∙ c.in-To.is)
-
-pub returns-in-No : goal.returns-in-No
-returns-in-No c = named-no _ _ _ _ (sym c.name-row.ensures ∙ c.in-No.is)

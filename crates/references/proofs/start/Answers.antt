@@ -1,32 +1,37 @@
 -- `references::start` meets its contract: a law for each way out. Assumes nothing.
-use native.Mathlib.Omega.{arith}
-use mathlib.Core.Path.{◌∙◌}
-use Rattle.references.proofs.Reading.{too_long, no-version, other-version, no_kind, other_kind, no-count, counted}
+use mathlib.Core.Path.{sym, ◌∙◌}
+use borrow.Author.Rules.{rules}
+use Rattle.references.proofs.Reading as law
+use Rattle.references.proofs.Reading.{misses}
 use Rattle.references.proofs.start.Goals as goal
 
 pub returns-then-b-gt-INPUT : goal.returns-then-b-gt-INPUT
-returns-then-b-gt-INPUT c = too_long _ c.if-b-gt-INPUT.true
+returns-then-b-gt-INPUT c = law.too_long _ (search rules)
 
-pub returns-then-b-lt1 : goal.returns-then-b-lt1
-returns-then-b-lt1 c = no-version _ c.if-b-gt-INPUT.false c.if-b-lt1.true
+pub returns-in_err-version : goal.returns-in_err-version
+returns-in_err-version c =
+    misses _ _ c.from_residual.ensures c.in_err-version.ensures.ok_part c.in_err-version.ensures.value
+    ∙ law.no-version _ (search rules) (sym c.be_u8.ensures ∙ c.in_err-version.ensures.ok_part)
 
-pub returns-then-b : goal.returns-then-b
-returns-then-b c = other-version _ c.if-b-gt-INPUT.false c.if-b-lt1.false c.if-b.true
+pub returns-then-version : goal.returns-then-version
+returns-then-version c = law.other-version _ (search rules) (sym c.be_u8.ensures ∙ c.in_ok-version.ensures.ok_part) c.if-version.true
 
-pub returns-then-b-lt2 : goal.returns-then-b-lt2
-returns-then-b-lt2 c = no_kind _ c.if-b-gt-INPUT.false c.if-b-lt1.false c.if-b.false c.if-b-lt2.true
+pub returns-in_err-kind : goal.returns-in_err-kind
+returns-in_err-kind c =
+    misses _ _ c.from_residual-in_err-kind.ensures c.in_err-kind.ensures.ok_part c.in_err-kind.ensures.value
+    ∙ law.no_kind _ (search rules) (sym c.be_u8.ensures ∙ c.in_ok-version.ensures.ok_part) c.if-version.false (sym c.be_u8-2.ensures ∙ c.in_err-kind.ensures.ok_part)
 
-pub overflow_cast-result : goal.overflow_cast-result
-overflow_cast-result c = omega (arith, c.type_inv.b 1)
+pub returns-then-kind-ne68 : goal.returns-then-kind-ne68
+returns-then-kind-ne68 c =
+    law.other_kind _ (search rules) (sym c.be_u8.ensures ∙ c.in_ok-version.ensures.ok_part) c.if-version.false (sym c.be_u8-2.ensures ∙ c.in_ok-kind.ensures.ok_part) c.if-kind-ne68.true
 
-pub returns-then-b-ne68 : goal.returns-then-b-ne68
-returns-then-b-ne68 c = other_kind _ c.if-b-gt-INPUT.false c.if-b-lt1.false c.if-b.false c.if-b-lt2.false c.if-b-ne68.true
-
-pub returns-then-b-lt3 : goal.returns-then-b-lt3
-returns-then-b-lt3 c = no-count _ c.if-b-gt-INPUT.false c.if-b-lt1.false c.if-b.false c.if-b-lt2.false c.if-b-ne68.false c.if-b-lt3.true
-
-pub overflow_cast-b : goal.overflow_cast-b
-overflow_cast-b c = omega (arith, c.type_inv.b 2)
+pub returns-in_err-count : goal.returns-in_err-count
+returns-in_err-count c =
+    misses _ _ c.from_residual-in_err-count.ensures c.in_err-count.ensures.ok_part c.in_err-count.ensures.value
+    ∙ law.no-count _ (search rules) (sym c.be_u8.ensures ∙ c.in_ok-version.ensures.ok_part) c.if-version.false
+    (sym c.be_u8-2.ensures ∙ c.in_ok-kind.ensures.ok_part) c.if-kind-ne68.false (sym c.be_u8-3.ensures ∙ c.in_err-count.ensures.ok_part)
 
 pub returns : goal.returns
-returns c = c.flagged.ensures ∙ counted _ c.if-b-gt-INPUT.false c.if-b-lt1.false c.if-b.false c.if-b-lt2.false c.if-b-ne68.false c.if-b-lt3.false
+returns c =
+    c.flagged.ensures ∙ (rw c.from.ensures (law.counted _ (search rules) (sym c.be_u8.ensures ∙ c.in_ok-version.ensures.ok_part) c.if-version.false
+    (sym c.be_u8-2.ensures ∙ c.in_ok-kind.ensures.ok_part) c.if-kind-ne68.false (sym c.be_u8-3.ensures ∙ c.in_ok-count.ensures.ok_part)))

@@ -1,16 +1,21 @@
 -- `rows::bits_byte` meets its contract. Assumes nothing.
-use borrow.Author.Tests.{eq-eqb, ne_eqb, le-leb, lt-leb}
+use native.Mathlib.Omega.{arith}
+use Rattle.std.proofs.lemmas.Bool.Decides.{nat_tests}
 use Rattle.numbers.specs.Caps.{bits_byte}
 use Rattle.rows.proofs.bits_byte.Goals as goal
 
 pub returns-then-n-eq0 : goal.returns-then-n-eq0
 unfolding bits_byte
-returns-then-n-eq0 c = rw (eq-eqb c.args.n 0 c.if-n-eq0.true)
+returns-then-n-eq0 c = grind (arith, nat_tests)
 
-pub returns-then-k-lt1 : goal.returns-then-k-lt1
+pub returns-in-1-to-8 : goal.returns-in-1-to-8
 unfolding bits_byte
-returns-then-k-lt1 c = rw (ne_eqb c.args.n 0 c.if-n-eq0.false, lt-leb 1 c.args.k c.if-k-lt1.true)
+returns-in-1-to-8 c = grind (arith, nat_tests)
 
-pub returns : goal.returns
+pub returns-in_default : goal.returns-in_default
 unfolding bits_byte
-returns c = rw (ne_eqb c.args.n 0 c.if-n-eq0.false, le-leb 1 c.args.k c.if-k-lt1.false)
+returns-in_default c = grind (arith, nat_tests)
+
+pub returns-in_default-2 : goal.returns-in_default-2
+unfolding bits_byte
+returns-in_default-2 c = grind (arith, nat_tests)

@@ -10,7 +10,7 @@ pub overflow_add-result-then-has : goal.overflow_add-result-then-has
 overflow_add-result-then-has c = omega (arith, there _ _ _ (sym c.has.ensures ∙ c.if-has.true))
 
 pub returns-then-has : goal.returns-then-has
-returns-then-has c = binary_by _ _ c.u32_at-n.ensures.0 true (sym c.has.ensures ∙ c.if-has.true)
+returns-then-has c = binary_by _ _ c.u32_at-n.ensures true (sym c.has.ensures ∙ c.if-has.true)
 
-pub returns : goal.returns
-returns c = binary_by _ _ c.u32_at-n.ensures.0 false (sym c.has.ensures ∙ c.if-has.false)
+pub returns-else-has : goal.returns-else-has
+returns-else-has c = binary_by _ _ c.u32_at-n.ensures false (sym c.has.ensures ∙ c.if-has.false)

@@ -1,16 +1,19 @@
 -- `tape::behind`: as reading refuses; else by what becomes of the term. Assumes nothing.
 use mathlib.Core.Path.{refl, sym, ◌∙◌}
+use Rattle.reading.proofs.Told.{err_refused}
 use Rattle.tape.proofs.Reading as laws
 use Rattle.tape.proofs.behind.Goals as goal
 
-pub returns-then-a-ne-DONE : goal.returns-then-a-ne-DONE
-returns-then-a-ne-DONE c = laws.refuse refl (laws.whole-refused _ _ _ _ _ c.read-a.ensures c.if-a-ne-DONE.true ∙ laws.behind-term _ _ _ refl) c.if-a-ne-DONE.true
+pub returns-in_default : goal.returns-in_default
+returns-in_default c =
+    let no = err_refused _ _ _ c.in_default.is in
+    laws.refuse refl (laws.whole-refused _ _ _ _ _ c.read-a.ensures no ∙ laws.behind-term _ _ _ refl) no
 
-pub ends-ended-requires : goal.ends-ended-requires
-ends-ended-requires c = laws.came _ _ _ _ 0 c.read-a.ensures c.if-a-ne-DONE.false
+pub ends-requires : goal.ends-requires
+ends-requires c = laws.came _ _ _ _ 0 (rw c.in-Ok.is at c.read-a.ensures) refl
 
-pub returns-in-Done : goal.returns-in-Done
-returns-in-Done c = laws.closes c.read-a.ensures c.if-a-ne-DONE.false (sym c.in-Done.is ∙ c.ends-ended.ensures.answer) (rw c.in-Done.is at c.ends-ended.ensures.tape) refl
+pub returns-in-Ok-ends : goal.returns-in-Ok-ends
+returns-in-Ok-ends c = rw c.in-Ok.is (laws.closes (rw c.in-Ok.is at c.read-a.ensures) refl (sym c.in-Ok-ends.is ∙ c.ends.ensures.answer) (rw c.in-Ok-ends.is at c.ends.ensures.tape) refl)
 
-pub returns-in-No : goal.returns-in-No
-returns-in-No c = laws.closes c.read-a.ensures c.if-a-ne-DONE.false (sym c.in-No.is ∙ c.ends-ended.ensures.answer) (rw c.in-No.is at c.ends-ended.ensures.tape) c.refusal.ensures
+pub returns-in-Err : goal.returns-in-Err
+returns-in-Err c = laws.closes (rw c.in-Ok.is at c.read-a.ensures) refl (sym c.in-Err.is ∙ c.ends.ensures.answer) (rw c.in-Err.is at c.ends.ensures.tape) c.refused.ensures

@@ -7,6 +7,7 @@ use Rattle.numbers.specs.Allowed.{Allowed}
 use Rattle.layouts.specs.Tree.{Tree, Forest, Stands, bytes, size}
 use Rattle.layouts.specs.Layout.{Laid}
 use Rattle.layouts.specs.Nodes.{nodes_all}
+use Rattle.tape.specs.declared.Cell.{Cell}
 use Rattle.tape.specs.Cells.{cell_words, cell_of, words}
 
 -- the words of trees side by side, the first of which starts at p and has the cell c
@@ -17,10 +18,17 @@ words_all ts p up c = flat_map cell_of (nodes_all ts p up c)
 abbrev pub cell : (tag start end parent size : ℕ) → List ℕ
 cell tag start end parent size = tag ∷ start ∷ end ∷ parent ∷ size ∷ []
 
--- the words of a cell that are known before its children, and those that are known after them
-abbrev pub opened : List ℕ → (cell tag start up : ℕ) → List ℕ
-opened tape c tag start up = set (set (set tape (c * cell_words) tag) (c * cell_words + 1) start) (c * cell_words + 3) up
+abbrev pub words_in : Cell → List ℕ
+words_in c = cell c.tag c.start c.end c.parent c.size
 
+-- they are small enough for the tape's words
+pub record Small (c : Cell) : Type 0 where
+  pub start : c.start ≤ cap.input
+  pub end : c.end ≤ cap.input
+  pub parent : c.parent ≤ cap.input
+  pub size : c.size ≤ cap.input
+
+-- the words that are known after a cell's children
 abbrev pub closed : List ℕ → (cell end size : ℕ) → List ℕ
 closed tape c end size = set (set tape (c * cell_words + 2) end) (c * cell_words + 4) size
 

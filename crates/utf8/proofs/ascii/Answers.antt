@@ -1,13 +1,10 @@
 -- `utf8::ascii` meets its contract: each way of looking tells whether the bytes are plain. Assumes nothing.
-use Rattle.std.proofs.Common.{arith}
-use Rattle.utf8.proofs.Eights.{never, run_tells}
+use Rattle.std.proofs.Common.{◌-◌, length, arith}
+use Rattle.utf8.proofs.Eights.{first-plain, placed, left-length}
 use Rattle.utf8.proofs.ascii.Goals as goal
 
-pub returns-then-b-at : goal.returns-then-b-at
-returns-then-b-at c = (never, λ p. absurd (omega arith))
-
-pub returns-then-b-at-2 : goal.returns-then-b-at-2
-returns-then-b-at-2 c = (never, λ p. absurd (omega arith))
-
-pub returns : goal.returns
-returns c = run_tells c.args.n c.plain_end.ensures
+pub returns-in-Some : goal.returns-in-Some
+returns-in-Some c =
+    let b = c.args.b.now in
+    let l = left-length b c.args.at in
+    placed c.short.ensures (first-plain b c.args.at (length b - c.args.at) 8 c.args.n (omega (arith, l, c.in-Some.ensures.cases.enough)) (omega arith) (omega (arith, l, c.in-Some.ensures.cases.enough)) c.in-Some.ensures.cases.same)

@@ -1,11 +1,10 @@
--- `utf8::char_at` meets its contract: what the table tells is the character. Assumes nothing.
-use Rattle.std.proofs.Common.{ℕ, drop, sym, ◌∙◌, subst}
-use Rattle.utf8.specs.Inner.Check.{Char}
-use Rattle.utf8.proofs.ByRows.{not_listed, by_table}
+-- `utf8::char_at` meets its contract: going by the rows finds the character, or that there is none. Assumes nothing.
+use Rattle.std.proofs.Common.{arith, drop}
+use Rattle.utf8.proofs.ByRows.{by_table, no_character}
 use Rattle.utf8.proofs.char_at.Goals as goal
 
-pub returns-then-n-eq-UNDECIDED : goal.returns-then-n-eq-UNDECIDED
-returns-then-n-eq-UNDECIDED c = not_listed _ (sym c.rows-n.ensures ∙ c.if-n-eq-UNDECIDED.true)
+pub returns-in-0 : goal.returns-in-0
+returns-in-0 c = let e = c.rows.ensures in no_character _ (grind arith)
 
-pub returns : goal.returns
-returns c = subst (λ (n : ℕ). Char (drop c.args.i c.args.s.now) n) (sym c.rows-n.ensures) (by_table _ (λ e. c.if-n-eq-UNDECIDED.false (c.rows-n.ensures ∙ e)))
+pub returns-in_default : goal.returns-in_default
+returns-in_default c = let e = c.rows.ensures in rw e (by_table (drop c.args.i c.args.s.now) (λ h. grind arith) (λ h. grind arith))

@@ -12,17 +12,17 @@ loop-i-init c = none_yet _
 pub loop-i-preserved-then-s-i-lt128 : goal.loop-i-preserved-then-s-i-lt128
 loop-i-preserved-then-s-i-lt128 c = ascii_more c.loop-i.invariant c.loop-i-test.true c.if-s-i-lt128.true c.plain_end-i.ensures.plain
 
-pub returns-then-n-eq0 : goal.returns-then-n-eq0
-returns-then-n-eq0 c = good_unique (good-to c.loop-i.invariant (stuck-here c.loop-i.invariant c.char_at-n.ensures c.if-n-eq0.true)) (good-bytes _)
+pub returns-in-None : goal.returns-in-None
+returns-in-None c = good_unique (good-to c.loop-i.invariant (stuck-here c.loop-i.invariant c.in-None.ensures)) (good-bytes _)
 
-pub overflow_add-i-else-s-i-lt128 : goal.overflow_add-i-else-s-i-lt128
-overflow_add-i-else-s-i-lt128 c = omega (arith, step c.loop-i.invariant c.char_at-n.ensures)
+pub overflow_add-i-in-Some : goal.overflow_add-i-in-Some
+overflow_add-i-in-Some c = omega (arith, step c.loop-i.invariant c.in-Some.ensures)
 
 pub loop-i-smaller : goal.loop-i-smaller
-loop-i-smaller c = omega (arith, step c.loop-i.invariant c.char_at-n.ensures)
+loop-i-smaller c = omega (arith, step c.loop-i.invariant c.in-Some.ensures)
 
 pub loop-i-preserved : goal.loop-i-preserved
-loop-i-preserved c = one_more c.loop-i.invariant _ c.char_at-n.ensures c.if-n-eq0.false
+loop-i-preserved c = one_more c.loop-i.invariant c.in-Some.ensures
 
 pub returns : goal.returns
 returns c = good_unique (good-to c.loop-i.invariant (at-end c.args.s.now c.loop-i.i (omega arith))) (good-bytes _)

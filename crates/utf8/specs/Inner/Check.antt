@@ -1,5 +1,5 @@
 -- What the check's functions answer of bytes and of single characters.
-use Rattle.std.specs.Prelude.{◌≡◌, ℕ, ◌+◌, ◌*◌, ◌<◌, ◌≤◌, true, List, [], ◌∷◌, ◌++◌, length, take, drop, slice_index}
+use Rattle.std.specs.Prelude.{◌≡◌, ℕ, ◌+◌, ◌*◌, ◌<◌, ◌≤◌, true, List, [], ◌∷◌, ◌++◌, length, drop, slice_index, Option, Some, None}
 use Rattle.utf8.specs.Unicode.{scalar, encode}
 use Rattle.utf8.specs.Good.{spelled, Scalars}
 
@@ -19,10 +19,6 @@ unfoldable pub le : List ℕ → ℕ
 le [] = 0
 le (x ∷ s) = x + le s * 256
 
--- the number that the k bytes from `at` on spell so
-unfoldable pub le_at : ℕ → List ℕ → ℕ → ℕ
-le_at k b at = le (take k (drop at b))
-
 -- the first k bytes of s spell whole good characters
 pub record Spells (s : List ℕ) (k : ℕ) : Type 0 where
   pub chars : List ℕ
@@ -37,7 +33,7 @@ pub record Begins (s : List ℕ) : Type 0 where
   pub rest : List ℕ
   pub is : s ≡ encode char ++ rest
 
--- n is 0 where no whole good character begins s, and else the length of the one that does
-pub data Char (s : List ℕ) (n : ℕ) : Type 0 where
-  none : n ≡ 0 → (Begins s → ⊥) → Char s n
-  one : 0 < n → n ≤ length s → (c : ℕ) → scalar c ≡ true → s ≡ encode c ++ drop n s → Char s n
+-- r is the length of the whole good character that begins s, and None where none does
+pub data Char (s : List ℕ) : Option ℕ → Type 0 where
+  none : (Begins s → ⊥) → Char s None
+  one : {n : ℕ} → 0 < n → n ≤ length s → (c : ℕ) → scalar c ≡ true → s ≡ encode c ++ drop n s → Char s (Some n)

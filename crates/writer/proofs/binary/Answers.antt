@@ -1,16 +1,17 @@
 -- `writer::binary` meets its contract: a tag, a length of four bytes, and the text. Assumes nothing.
-use Rattle.std.proofs.Common.{refl, arith}
-use Rattle.writer.proofs.Room.{long, length-fits, text-fits, spelt, a_binary}
+use Rattle.std.proofs.Common.{refl, ◌∙◌, arith}
+use Rattle.writer.proofs.Wrote.{bytes_4}
+use Rattle.writer.proofs.Room.{length-fits, text-fits, spelt, a_binary, lengthened}
 use Rattle.writer.proofs.binary.Goals as goal
 
-pub number4-requires : goal.number4-requires
-number4-requires c = length-fits c.requires (a_binary _ _ _ c.requires)
+pub overflow_cast-n : goal.overflow_cast-n
+overflow_cast-n c = record { fits = (a_binary _ _ _ c.requires).holds }
+
+pub number-q-requires : goal.number-q-requires
+number-q-requires c = (omega arith, length-fits c.requires (a_binary _ _ _ c.requires))
 
 pub text-requires : goal.text-requires
-text-requires c = text-fits c.requires (a_binary _ _ _ c.requires) c.number4.ensures refl
-
-pub overflow_add-result-2 : goal.overflow_add-result-2
-overflow_add-result-2 c = omega (arith, long c.requires (a_binary _ _ _ c.requires))
+text-requires c = let b = a_binary _ _ _ c.requires in text-fits c.requires b (lengthened 4 c.args.n (c.to_be_bytes.ensures ∙ bytes_4 _ b.holds) c.number-q.ensures) refl
 
 pub returns : goal.returns
-returns c = spelt c.requires (a_binary _ _ _ c.requires) c.number4.ensures c.text.ensures
+returns c = let b = a_binary _ _ _ c.requires in spelt c.requires b (lengthened 4 c.args.n (c.to_be_bytes.ensures ∙ bytes_4 _ b.holds) c.number-q.ensures) c.text.ensures

@@ -1,6 +1,7 @@
 -- `writer::leaf`: the tests tell the kinds, of which an item that is allowed has one. Assumes nothing.
-use Rattle.std.proofs.Common.{refl, arith}
-use Rattle.writer.proofs.Room.{number_fits, fits, within, is-integer, is-double, is-atom, is-binary}
+use Rattle.std.proofs.Common.{refl, ◌∙◌, arith}
+use Rattle.writer.proofs.Wrote.{bytes_8}
+use Rattle.writer.proofs.Room.{number_fits, numbered, fits, within, is-integer, is-double, is-atom, is-binary}
 use Rattle.writer.proofs.leaf.Goals as goal
 
 pub integer-requires : goal.integer-requires
@@ -9,11 +10,13 @@ integer-requires c = fits c.requires.head (is-integer _ _ _ _ c.requires.head (o
 pub returns-then-kind-lt-DOUBLE : goal.returns-then-kind-lt-DOUBLE
 returns-then-kind-lt-DOUBLE c = within c.requires.head (is-integer _ _ _ _ c.requires.head (omega arith)) c.integer.ensures
 
-pub number8-requires : goal.number8-requires
-number8-requires c = number_fits _ (is-double _ _ _ _ c.requires.head (omega arith) (omega arith) (omega arith)) (fits c.requires.head refl)
+pub number-requires : goal.number-requires
+number-requires c = (omega arith, number_fits _ (is-double _ _ _ _ c.requires.head (omega arith) (omega arith) (omega arith)) (fits c.requires.head refl))
 
 pub returns-then-kind-lt-ATOM : goal.returns-then-kind-lt-ATOM
-returns-then-kind-lt-ATOM c = within c.requires.head (is-double _ _ _ _ c.requires.head (omega arith) (omega arith) (omega arith)).is c.number8.ensures
+returns-then-kind-lt-ATOM c =
+    let b = is-double _ _ _ _ c.requires.head (omega arith) (omega arith) (omega arith) in
+    within c.requires.head refl (numbered b (c.to_be_bytes.ensures ∙ bytes_8 _ b.holds) c.number.ensures)
 
 pub name-requires : goal.name-requires
 name-requires c = rw (is-atom _ _ _ _ c.requires.head (omega arith) (omega arith)) at c.requires.head

@@ -1,25 +1,30 @@
 -- `writer::name` meets its contract: a tag and a length of one byte or two, and the text. Assumes nothing.
-use Rattle.std.proofs.Common.{refl, arith}
-use Rattle.writer.proofs.Room.{long, length-fits, text-fits, spelt, short-name, long-name}
+use Rattle.std.proofs.Common.{refl, ◌∙◌, arith}
+use Rattle.writer.proofs.Wrote.{bytes_1, bytes_2}
+use Rattle.writer.proofs.Room.{length-fits, text-fits, spelt, short-name, long-name, lengthened}
 use Rattle.writer.proofs.name.Goals as goal
 
-pub number1-requires : goal.number1-requires
-number1-requires c = length-fits c.requires (short-name _ _ _ c.requires (omega arith))
+pub number-q-requires : goal.number-q-requires
+number-q-requires c = (omega arith, length-fits c.requires (short-name _ _ _ c.requires (omega arith)))
 
 pub text-requires : goal.text-requires
-text-requires c = text-fits c.requires (short-name _ _ _ c.requires (omega arith)) c.number1.ensures refl
+text-requires c = text-fits c.requires (short-name _ _ _ c.requires (omega arith)) (lengthened 1 c.args.n (bytes_1 _) c.number-q.ensures) refl
 
 pub returns-then-n-lt256 : goal.returns-then-n-lt256
-returns-then-n-lt256 c = spelt c.requires (short-name _ _ _ c.requires (omega arith)) c.number1.ensures c.text.ensures
+returns-then-n-lt256 c = spelt c.requires (short-name _ _ _ c.requires (omega arith)) (lengthened 1 c.args.n (bytes_1 _) c.number-q.ensures) c.text.ensures
 
-pub number2-requires : goal.number2-requires
-number2-requires c = length-fits c.requires (long-name _ _ _ c.requires (omega arith))
+pub overflow_cast-n-2 : goal.overflow_cast-n-2
+overflow_cast-n-2 c = record { fits = (long-name _ _ _ c.requires (omega arith)).holds }
+
+pub number-q-requires-2 : goal.number-q-requires-2
+number-q-requires-2 c = (omega arith, length-fits c.requires (long-name _ _ _ c.requires (omega arith)))
 
 pub text-requires-2 : goal.text-requires-2
-text-requires-2 c = text-fits c.requires (long-name _ _ _ c.requires (omega arith)) c.number2.ensures refl
-
-pub overflow_add-result-3 : goal.overflow_add-result-3
-overflow_add-result-3 c = omega (arith, long c.requires (long-name _ _ _ c.requires (omega arith)))
+text-requires-2 c =
+    let b = long-name _ _ _ c.requires (omega arith) in
+    text-fits c.requires b (lengthened 2 c.args.n (c.to_be_bytes.ensures ∙ bytes_2 _ b.holds) c.number-q-2.ensures) refl
 
 pub returns : goal.returns
-returns c = spelt c.requires (long-name _ _ _ c.requires (omega arith)) c.number2.ensures c.text-2.ensures
+returns c =
+    let b = long-name _ _ _ c.requires (omega arith) in
+    spelt c.requires b (lengthened 2 c.args.n (c.to_be_bytes.ensures ∙ bytes_2 _ b.holds) c.number-q-2.ensures) c.text-2.ensures

@@ -1,5 +1,5 @@
 -- How the bytes are put when it is known that they fit: what the functions of the second pass rely on, and what they leave.
-use Rattle.std.specs.Prelude.{◌≡◌, ℕ, ◌+◌, ◌^◌, ◌<◌, ◌≤◌, true, List, [], ◌++◌, length, take, drop}
+use Rattle.std.specs.Prelude.{◌≡◌, ℕ, ◌+◌, ◌<◌, ◌≤◌, true, List, [], ◌++◌, length, take, drop}
 use Rattle.measure.specs.Item.{Item, item_of, allowed}
 use Rattle.measure.specs.Term.{accepted, written}
 use Rattle.measure.specs.Inner.Own.{head_of}
@@ -31,11 +31,6 @@ pub record LeafFits (i : Item) (kind p end room : ℕ) : Type 0 where
 pub record ParentFits (kind x p room : ℕ) : Type 0 where
   pub above : 4 < kind
   pub head : HeadFits (item_of [] kind x 0) p room room
-
--- k bytes hold n, and may be put from p on
-pub record NumberFits (k n p room : ℕ) : Type 0 where
-  pub holds : n < 256 ^ k
-  pub lent : p + k ≤ room
 
 -- n bytes of the texts, from `at` on, may be put from p on
 pub record TextFits (texts at n p end room : ℕ) : Type 0 where

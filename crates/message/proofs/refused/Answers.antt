@@ -1,5 +1,0 @@
--- `message::refused` meets its contract. Assumes nothing.
-use Rattle.message.proofs.refused.Goals as goal
-
-pub returns : goal.returns
-returns c = rw c.refusal-a.ensures

@@ -1,9 +1,0 @@
--- It looks at no more segments than there are. The measure is the segments left.
-use Rattle.std.proofs.Common.{◌-◌, ◌≤◌}
-use Rattle.paths.proofs.path.Given as goal
-
-abbrev pub invariant-loop-i : goal.invariant-loop-i
-invariant-loop-i l = l.i ≤ l.n
-
-abbrev pub decreases-loop-i : goal.decreases-loop-i
-decreases-loop-i l = l.n - l.i
