@@ -1,7 +1,7 @@
 # frames.awk: the stack that each call of the library needs, by its code. With it goes frames-x86-64.awk or frames-thumb.awk, which knows the
 # machine's instructions:
 #
-#     awk -f jig/frames.awk -f jig/frames-x86-64.awk crates/terms/src/readers.rt CODE
+#     awk -f jig/frames.awk -f jig/frames-x86-64.awk crates/terms/src/readers.rt crates/terms/src/steps.rt CODE
 #
 # CODE is what `objdump -r` and then `objdump -dr --no-show-raw-insn` print of the library. Prints `call limit bytes` for the nesting limits 1, 8
 # and 64; where the machine keeps return addresses on the stack, the call's own is among the bytes. -v calls=REGEX: of other functions than sill_*.
@@ -12,7 +12,7 @@
 # through the calls. What isn't understood of the stack, of a jump or of a call is an error; so is an instruction that no way leads to, and an
 # address of code that is kept.
 #
-# Reading calls itself. The readers of readers.rt hand on `rem`, the levels of nesting that are left. `term` and `child` are given those left for the
+# Reading calls itself; the steps of steps.rt call no reader. The readers of readers.rt hand on `rem`, the levels of nesting that are left. `term` and `child` are given those left for the
 # term that they read: at 0 they refuse, else they take one off before they hand it on, but that `child` hands `term` what it was given. All
 # others hand on what they were given. So a level falls where a call leads from the others back to those two: where `required` calls `term` and
 # `kids` calls `child`. No way has more falls than the limit has levels. In the code a reader may have become part of another, and a call from
@@ -159,13 +159,12 @@ function named(args) { if (!match(args, /<.*>$/)) wrong("leads to no name"); ret
 
 # which readers lead to which by calls that don't fall
 function same_level(a, b, c) {
-    for (a in source) for (b in source) if (source[a] ~ "self\\." b "\\(" && !((a, b) in fall)) same[a, b] = 1
+    for (a in source) for (b in source) if (source[a] ~ "[^a-z_]" b "\\(" && !((a, b) in fall)) same[a, b] = 1
     for (b in source) for (a in source) for (c in source) if ((a, b) in same && (b, c) in same) same[a, c] = 1
 }
 function falls(a, b) {
     if (!sub(/^terms::Reader::/, "", a) || !sub(/^terms::Reader::/, "", b)) return 0
-    # what isn't in readers.rt is a step, which calls no reader
-    if (!(a in source) || !(b in source)) return 0
+    if (!(a in source) || !(b in source)) fail("terms::Reader: no such reader or step in the source: " a ", " b)
     return !((a, b) in same)
 }
 # the longest way from a function on with k levels left

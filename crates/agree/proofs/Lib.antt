@@ -6,6 +6,7 @@ pub mod Atoms
 pub mod AsReading
 pub mod HeadIs
 pub mod Promised
+pub mod Alike
 pub mod OfTree
 pub mod Values
 pub mod Examples

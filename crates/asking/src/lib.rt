@@ -5,6 +5,9 @@
 
 mod words;
 
+ghost use Rattle.std.specs.Prelude.{IfOk, ◌≤◌, ◌*◌, length};
+ghost use Rattle.asking.specs.Inner.Spelt.{spelt};
+
 use std::fmt;
 
 // The most letters that a request of 65,536 bytes has: `number`, two numbers of twenty digits, a key of as many letters, four spaces, and
@@ -83,8 +86,11 @@ impl fmt::Display for Nothing {
     }
 }
 
-// What a line asks. Its bytes are put where the word that spells them stands, and the numbers of a row into `row`.
-pub fn of<'a>(line: &'a mut [u8], row: &'a mut [u64]) -> Result<Request<'a>, Nothing> {
+// What a line asks. Its bytes are put where the word that spells them stands, half as many at most as the line has letters, and the
+// numbers of a row into `row`.
+pub fn of<'a>(line: &'a mut [u8], row: &'a mut [u64]) -> Result<Request<'a>, Nothing>
+    ensures { IfOk result (λ r. 2 * length (spelt r) ≤ length line.old) }
+{
     if LONGEST < line.len() {
         return Err(Nothing::Long);
     }

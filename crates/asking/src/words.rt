@@ -1,7 +1,7 @@
 // What request lines are made of: words with one space between them, decimal numbers, rows of these, and bytes as lower-case hex. Each function
 // takes what is left of a line, and hands on what it leaves of it, behind a space. Bytes and a small number are a line's last word, and take
 // all that is left.
-ghost use Rattle.std.specs.Prelude.{IfSome, ◌<◌};
+ghost use Rattle.std.specs.Prelude.{IfOk, IfSome, ◌<◌, ◌≤◌, ◌*◌, length};
 
 use crate::Nothing;
 
@@ -9,7 +9,9 @@ use crate::Nothing;
 const BYTES: usize = 65536;
 
 // The next word.
-pub(crate) fn word(line: &mut [u8]) -> Result<(&[u8], &mut [u8]), Nothing> {
+pub(crate) fn word(line: &mut [u8]) -> Result<(&[u8], &mut [u8]), Nothing>
+    ensures { IfOk result (λ r. length r.1.now ≤ length line.old) }
+{
     let end = line
         .iter()
         .position(|letter| *letter == b' ')
@@ -19,14 +21,18 @@ pub(crate) fn word(line: &mut [u8]) -> Result<(&[u8], &mut [u8]), Nothing> {
 }
 
 // A decimal number.
-pub(crate) fn number(line: &mut [u8]) -> Result<(usize, &mut [u8]), Nothing> {
+pub(crate) fn number(line: &mut [u8]) -> Result<(usize, &mut [u8]), Nothing>
+    ensures { IfOk result (λ r. length r.1.now ≤ length line.old) }
+{
     let (word, rest) = word(line)?;
     let n = decimal(word).ok_or(Nothing::Unknown)?;
     Ok((n, rest))
 }
 
 // The same with a minus before it or without. (One function that is handed how a word is read would be no shorter than both.)
-pub(crate) fn integer(line: &mut [u8]) -> Result<(i64, &mut [u8]), Nothing> {
+pub(crate) fn integer(line: &mut [u8]) -> Result<(i64, &mut [u8]), Nothing>
+    ensures { IfOk result (λ r. length r.1.now ≤ length line.old) }
+{
     let (word, rest) = word(line)?;
     let n = signed(word).ok_or(Nothing::Unknown)?;
     Ok((n, rest))
@@ -42,14 +48,18 @@ pub(crate) fn small(line: &[u8]) -> Result<u8, Nothing> {
 pub(crate) fn numbers<'a, 'b>(
     line: &'a mut [u8],
     row: &'b mut [u64],
-) -> Result<(&'b [u64], &'a mut [u8]), Nothing> {
+) -> Result<(&'b [u64], &'a mut [u8]), Nothing>
+    ensures { IfOk result (λ r. length r.1.now ≤ length line.old) }
+{
     let (word, rest) = word(line)?;
     let row = put(word, row).ok_or(Nothing::Unknown)?;
     Ok((row, rest))
 }
 
 // The bytes that a word spells in place, half as many as it has letters; `-` is none.
-pub(crate) fn bytes(line: &mut [u8]) -> Result<&[u8], Nothing> {
+pub(crate) fn bytes(line: &mut [u8]) -> Result<&[u8], Nothing>
+    ensures { IfOk result (λ b. 2 * length b.now ≤ length line.old) }
+{
     if BYTES < line.len() / 2 {
         return Err(Nothing::Long);
     }
@@ -85,7 +95,9 @@ fn put<'a>(word: &[u8], row: &'a mut [u64]) -> Option<&'a [u64]> {
     row.get(..n)
 }
 
-fn decode(word: &mut [u8]) -> Option<&[u8]> {
+fn decode(word: &mut [u8]) -> Option<&[u8]>
+    ensures { IfSome result (λ b. 2 * length b.now ≤ length word.old) }
+{
     if &*word == b"-".as_slice() {
         return Some(&[]);
     }

@@ -91,5 +91,8 @@ fn put(name: &[u8], slot: u8, store: &mut [u8])
 {
     let at = usize::from(slot) * SLOT_BYTES;
     store[at] = name.len() as u8;
-    store[at + 1..at + 1 + name.len()].copy_from_slice(name);
+    // (byte by byte: std's copy of a slice would have the library call memmove, which a firmware needn't bring)
+    for i in 0..name.len() {
+        store[at + 1 + i] = name[i];
+    }
 }

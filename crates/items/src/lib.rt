@@ -101,71 +101,44 @@ pub struct Head<'a>(pub &'a [u8], pub usize);
 impl<'a> fmt::Display for Head<'a> {
     fn fmt<W: fmt::Write>(&self, f: &mut fmt::Formatter<W>) -> fmt::Result {
         let h = heads::head(self.0, self.1);
+        let words = headwords::words(h);
         match h.value {
             Ok(value) => {
                 let part = Word(heads::part(self.0, self.1));
-                let fields = Fields(&value);
-                write!(f, "answer=0 tag={} fields={fields} part={part}", h.tag)
+                let fields = Fields(value, &words[4..]);
+                write!(f, "answer=0 tag={} fields={fields} part={part}", words[1])
             }
-            Err(refused) => {
-                let number = refused.why.number();
-                let offset = refused.offset;
-                let extra = refused.why.extra();
-                write!(
-                    f,
-                    "answer={number} tag={} offset={offset} extra={extra}",
-                    h.tag
-                )
-            }
+            Err(_) => write!(
+                f,
+                "answer={} tag={} offset={} extra={}",
+                words[0], words[1], words[2], words[3]
+            ),
         }
     }
 }
 
-// The fields that a head has.
+// The fields that a head has, as headwords has them in order: number, tag, offset and extra stand before them.
 #[derive(Clone, Copy)]
-struct Fields<'a>(&'a Value);
+struct Fields<'a>(Value, &'a [u64]);
 
 impl<'a> fmt::Display for Fields<'a> {
     fn fmt<W: fmt::Write>(&self, f: &mut fmt::Formatter<W>) -> fmt::Result {
-        match *self.0 {
-            Value::Integer(z) => write!(f, "{z}"),
-            Value::Double(_, bits) => write!(f, "{bits}"),
-            Value::Tuple(n) | Value::List(n) | Value::Map(n) => write!(f, "{n}"),
-            Value::NumberText(run) | Value::Atom(run) | Value::String(run) | Value::Binary(run) =>
-                write!(f, "{}", Place(run)),
-            Value::BitString { bytes, bits } => write!(f, "{},{bits}", Place(bytes)),
-            Value::Big { digits, sign, .. } => write!(f, "{},{sign}", Place(digits)),
-            Value::Pid {
-                node,
-                id,
-                serial,
-                creation,
-            } => write!(f, "{},{id},{serial},{creation}", Place(node)),
-            Value::Reference {
-                count,
-                node,
-                creation,
-                ids,
-            } => write!(f, "{count},{},{creation},{ids}", Place(node)),
-            Value::Port { node, id, creation } => write!(f, "{},{id},{creation}", Place(node)),
-            Value::Function {
-                size,
-                arity,
-                unique,
-                index,
-                free,
-            } => write!(f, "{size},{arity},{unique},{index},{free}"),
-            Value::Nil | Value::Export => Ok(()),
+        let n = match self.0 {
+            // the one that has a sign
+            Value::Integer(z) => return write!(f, "{z}"),
+            Value::Nil | Value::Export => 0,
+            Value::Double(..) | Value::Tuple(_) | Value::List(_) | Value::Map(_) => 1,
+            Value::NumberText(_) | Value::Atom(_) | Value::String(_) | Value::Binary(_) => 2,
+            Value::BitString { .. } | Value::Big { .. } => 3,
+            Value::Port { .. } => 4,
+            Value::Pid { .. } | Value::Reference { .. } | Value::Function { .. } => 5,
+        };
+        for (i, word) in self.1.iter().take(n).enumerate() {
+            if i != 0 {
+                f.write_str(",")?;
+            }
+            write!(f, "{word}")?;
         }
-    }
-}
-
-// A run's place and length.
-#[derive(Clone, Copy)]
-struct Place(Run);
-
-impl fmt::Display for Place {
-    fn fmt<W: fmt::Write>(&self, f: &mut fmt::Formatter<W>) -> fmt::Result {
-        write!(f, "{},{}", self.0.at, self.0.len)
+        Ok(())
     }
 }

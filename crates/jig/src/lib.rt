@@ -109,7 +109,7 @@ pub fn sill_part(b: &[u8], at: usize, told: &mut [u64; 2])
     *told = headwords::place(h);
 }
 
-// A cache with no name in it, as cache::empty says: its four words.
+// A cache with no name in it, as Cache::empty says: its four words.
 pub fn sill_empty(filled: &mut [u64; 4])
     ensures { filled.new ≡ replicate 4 0 }
 {
@@ -117,14 +117,14 @@ pub fn sill_empty(filled: &mut [u64; 4])
     *filled = words;
 }
 
-// The count of names in a cache, as cache::count says.
+// The count of names in a cache, as Cache::count says.
 pub fn sill_count(filled: &[u64; 4]) -> usize
     ensures { result ≡ count_of filled.now }
 {
     Cache { filled: *filled }.count()
 }
 
-// The name in a slot, as cache::get says. Told are number, its place in the store and its length.
+// The name in a slot, as Cache::get says. Told are number, its place in the store and its length.
 pub fn sill_get(filled: &[u64; 4], store: &[u8], slot: u8, told: &mut [u64; 3])
     ensures { told.new ≡ name_words (got_at filled.now store.now slot) }
 {

@@ -22,12 +22,13 @@ enum Ending {
     Piped = 141,
 }
 
-// Standard output behind a lent buffer, of which so many bytes wait, where failures are said, and how the program ends.
+// Standard output behind a lent buffer, of which so many bytes wait, where failures are said, and how the program ends. From the first failure on
+// there is no output any more.
 #[derive(Drop)]
 pub struct Out<'a> {
     room: &'a mut [u8],
     waits: usize,
-    to: Stdout,
+    to: Option<Stdout>,
     errors: Stderr,
     ending: Ending,
     ghost within: { waits ≤ length room.now },
@@ -38,7 +39,7 @@ impl<'a> Out<'a> {
         Out {
             room,
             waits: 0,
-            to,
+            to: Some(to),
             errors,
             ending: Ending::Well,
         }
@@ -46,18 +47,15 @@ impl<'a> Out<'a> {
 
     // Writes what waits.
     pub fn flush(&mut self) -> fmt::Result {
-        self.open()?;
-        let written = self.to.write_all(&self.room[..self.waits]);
+        let to = self.open()?;
+        let written = to.write_all(&self.room[..self.waits]);
         self.waits = 0;
         self.told(written)
     }
 
-    // Whether nothing has failed yet.
-    fn open(&self) -> fmt::Result {
-        match self.ending {
-            Ending::Unwritten | Ending::Piped => Err(fmt::Error),
-            _ => Ok(()),
-        }
+    // What is written to, where nothing has failed yet.
+    fn open(&self) -> Result<Stdout, fmt::Error> {
+        self.to.ok_or(fmt::Error)
     }
 
     // Of a write that failed it is said.
@@ -65,6 +63,7 @@ impl<'a> Out<'a> {
         let Err(error) = written else {
             return Ok(());
         };
+        self.to = None;
         if error.kind() == ErrorKind::BrokenPipe {
             self.ending = Ending::Piped;
         } else {
@@ -98,12 +97,12 @@ impl<'a> Out<'a> {
 
 impl<'a> fmt::Write for Out<'a> {
     fn write_str(&mut self, text: &str) -> fmt::Result {
-        self.open()?;
+        let to = self.open()?;
         if self.room.len() - self.waits < text.len() {
             self.flush()?;
         }
         if self.room.len() - self.waits < text.len() {
-            let written = self.to.write_all(text.as_bytes());
+            let written = to.write_all(text.as_bytes());
             return self.told(written);
         }
         let end = self.waits + text.len();

@@ -4,6 +4,7 @@ use Rattle.numbers.specs.Numbers as number
 use Rattle.numbers.specs.Caps as cap
 use Rattle.numbers.specs.Refusal.{number_of, extra_of}
 use Rattle.reading.specs.declared.Answer.{Answer}
+use Rattle.reading.specs.declared.Numbers.{Numbers}
 use Rattle.reading.specs.declared.Done.{Done}
 use Rattle.reading.specs.declared.Refused.{Refused}
 use Rattle.reading.specs.declared.Kind.TheVariants as kind
@@ -32,3 +33,8 @@ told (Err r) c n =
 
 abbrev pub told_of : Answer → Told
 told_of a = told a.outcome a.begun a.deepest
+
+-- the same where it has its numbers already
+abbrev pub told_by : Numbers → Told
+told_by a =
+    record { number = a.number; end = a.end; offset = a.offset; extra = a.extra; begun = a.begun; deepest = a.deepest; len = a.path.len; path = a.path.segments }

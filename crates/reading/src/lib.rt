@@ -11,7 +11,7 @@ ghost use Rattle.std.specs.Prelude.{◌≡◌, [], take};
 ghost use Rattle.numbers.specs.Refusal.{number_of, extra_of};
 ghost use Rattle.reading.specs.Terms as terms;
 ghost use Rattle.reading.specs.Answer as def;
-ghost use Rattle.reading.specs.Told.{told_of, padded};
+ghost use Rattle.reading.specs.Told.{told_of, told_by, padded};
 
 use numbers::Refusal;
 
@@ -109,6 +109,33 @@ impl Answer {
             begun,
             deepest,
         }
+    }
+}
+
+// An answer number by number, as document 01 tells it.
+#[derive(Clone, Copy)]
+pub struct Numbers {
+    pub number: u64,
+    pub end: usize,
+    pub offset: usize,
+    pub extra: u64,
+    pub begun: usize,
+    pub deepest: usize,
+    pub path: Path,
+}
+
+// A refusal told so, with an empty path: of any cause, with any extra. `Answer::refused` has the one that its cause tells.
+pub fn refusal(cause: Refusal, offset: usize, extra: u64, begun: usize, deepest: usize) -> Numbers
+    ensures { told_by result ≡ def.refusal (number_of cause) offset extra begun deepest [] }
+{
+    Numbers {
+        number: cause.number(),
+        end: 0,
+        offset,
+        extra,
+        begun,
+        deepest,
+        path: Path::empty(),
     }
 }
 

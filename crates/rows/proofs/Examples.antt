@@ -12,6 +12,7 @@ use Rattle.rows.specs.Row.{bytes, name, count_then}
 use Rattle.numbers.specs.Caps.{bits_byte}
 use Rattle.rows.specs.Layout.{number_text, bits_then, row_at}
 use Rattle.std.specs.Prelude.{Ok, Err}
+use Rattle.numbers.specs.Refusal.{number_of, extra_of}
 use Rattle.numbers.specs.declared.Refusal.TheVariants as refusal
 
 -- 77 0 0 0 0 8 is accepted, and 7 bits are not
@@ -32,3 +33,7 @@ text-first = refl
 pub no-literal : row_at (replicate 31 0) 99 0 ≡ Err refusal.Literal
 unfolding row_at number_text name bytes holds good_bytes good_from char_bytes decode scalar encode starts trimmed is_literal
 no-literal = refl
+
+-- and the jig shows them as 5, 3 and 4, with no extra
+pub shown : (number_of refusal.Bits ≡ 5) × ((number_of refusal.Text ≡ 3) × ((number_of refusal.Literal ≡ 4) × ((extra_of refusal.Bits ≡ 0) × ((extra_of refusal.Text ≡ 0) × (extra_of refusal.Literal ≡ 0)))))
+shown = (refl, (refl, (refl, (refl, (refl, refl)))))

@@ -1,4 +1,5 @@
 pub mod Laws
+pub mod Texts
 pub mod Ends
 pub mod Outcomes
 pub mod Examples

@@ -5,6 +5,10 @@
 
 #![tactic(auto)]
 
+ghost use Rattle.std.specs.Prelude.{◌≡◌, ◌≤◌, ◌*◌, length};
+ghost use Rattle.reading.specs.Told.{told_of};
+ghost use Rattle.tape.specs.Cells.{cell_words};
+
 use numbers::Refusal;
 use paths::Path;
 use print::Out;
@@ -35,12 +39,18 @@ fn main(rt: HostRuntime) -> ExitCode {
     out.status()
 }
 
+// What is answered. Of a Done read every cell lies on the tape.
+fn read(b: &[u8], tape: &mut [u32]) -> Answer
+    ensures { (told_of result).number ≡ 0 → cell_words * result.begun ≤ length tape.new }
+{
+    if RECORD < b.len() {
+        return Answer::refused(Refusal::Long, 0, 0, 0);
+    }
+    tape::read(b, numbers::NESTING, tape)
+}
+
 fn record(b: &[u8], tape: &mut [u32], out: &mut Out<'_>) -> fmt::Result {
-    let a = if RECORD < b.len() {
-        Answer::refused(Refusal::Long, 0, 0, 0)
-    } else {
-        tape::read(b, numbers::NESTING, tape)
-    };
+    let a = read(b, tape);
     let number = match &a.outcome {
         Ok(_) => numbers::DONE,
         Err(refused) => refused.why.number(),
@@ -54,11 +64,13 @@ fn record(b: &[u8], tape: &mut [u32], out: &mut Out<'_>) -> fmt::Result {
     }
 }
 
-// An accepted record's cells, a line for each.
-fn cells(begun: usize, tape: &[u32], out: &mut Out<'_>) -> fmt::Result {
+// An accepted record's cells, a line for each of all that were begun.
+fn cells(begun: usize, tape: &[u32], out: &mut Out<'_>) -> fmt::Result
+    requires { cell_words * begun ≤ length tape.now }
+{
     writeln!(out, "cells={begun}")?;
     let (cells, _) = tape.as_chunks::<CELL>();
-    for (i, [kind, start, end, parent, size]) in cells.iter().take(begun).enumerate() {
+    for (i, [kind, start, end, parent, size]) in cells[..begun].iter().enumerate() {
         writeln!(
             out,
             "cell={i} kind={kind} start={start} end={end} parent={parent} size={size}",

@@ -12,6 +12,8 @@ use Rattle.message.specs.declared.MessageRead.{MessageRead}
 use Rattle.tape.proofs.Accepts as tape
 use Rattle.tape.proofs.Records.{record_sure}
 use Rattle.message.proofs.Sure.{message_sure}
+use Rattle.reading.specs.declared.Numbers.{Numbers}
+use Rattle.reading.specs.Told as told
 use Rattle.reading.proofs.Told.{told_alike}
 use Rattle.lookup.proofs.Meaning.{one_answer}
 use Rattle.jig.proofs.Told.{told_once, read_once}
@@ -40,6 +42,7 @@ use Rattle.reading.proofs.U64FromKind.from.Reads as reading_kind_number
 use Rattle.reading.proofs.Path.empty.Reads as reading_empty
 use Rattle.reading.proofs.Path.as_slice.Reads as reading_as-slice
 use Rattle.reading.proofs.Answer.refused.Reads as reading_refused
+use Rattle.reading.proofs.refusal.Reads as reading_refusal
 use Rattle.reading.proofs.is_atom.Reads as reading_is-atom
 use Rattle.reading.proofs.is_natural.Reads as reading_is_natural
 use Rattle.reading.proofs.starts.Reads as reading_starts
@@ -156,6 +159,7 @@ pub record Determined : Type 0 where
   pub reading_empty : Answer reading_empty.Post
   pub reading_as-slice : Part reading_as-slice.Post (λ κ r. r.now)
   pub reading_refused : Answer reading_refused.Post
+  pub reading_refusal : Answer reading_refusal.Post
   pub reading_is-atom : Answer reading_is-atom.Post
   pub reading_is_natural : Answer reading_is_natural.Post
   pub reading_starts : Answer reading_starts.Post
@@ -241,6 +245,14 @@ alike true y p q = sym (q.1 (p.0 refl))
 alike false true p q = p.1 (q.0 refl)
 alike false false p q = refl
 
+-- an answer that is its numbers
+abbrev untold : told.Told → Numbers
+untold t =
+    record { number = t.number; end = t.end; offset = t.offset; extra = t.extra; begun = t.begun; deepest = t.deepest; path = record { len = t.len; segments = t.path } }
+
+numbers_alike : {x y : Numbers} → told.told_by x ≡ told.told_by y → x ≡ y
+numbers_alike e = ap untold e
+
 -- a message's answer, by its two parts
 one_message : (x y : MessageRead) → x.answer ≡ y.answer → x.cache ≡ y.cache → x ≡ y
 one_message x y e f = rw (e, f)
@@ -272,6 +284,7 @@ determined = record {
   reading_empty = λ κ a x y s t p q. equal p q;
   reading_as-slice = λ κ a x y s t p q. equal p q;
   reading_refused = λ κ a x y s t p q. told_alike (equal p q);
+  reading_refusal = λ κ a x y s t p q. numbers_alike (equal p q);
   reading_is-atom = λ κ a x y s t p q. equal p q;
   reading_is_natural = λ κ a x y s t p q. equal p q;
   reading_starts = λ κ a x y s t p q. equal p q;

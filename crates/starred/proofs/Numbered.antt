@@ -29,6 +29,8 @@ use Rattle.rows.proofs.row_at.Reads as rows_row-at
 use Rattle.rows.proofs.count.Reads as rows_count
 use Rattle.rows.proofs.name.Reads as rows_name
 use Rattle.reading.proofs.Answer.refused.Reads as reading_refused
+use Rattle.reading.specs.Told.{Told}
+use Rattle.reading.proofs.refusal.Reads as reading_refusal
 use Rattle.reading.proofs.starts.Reads as reading_starts
 use Rattle.terms.proofs.read.Reads as terms_read
 use Rattle.heads.proofs.head.Reads as heads_head
@@ -85,6 +87,7 @@ pub record Numbered : Type 0 where
   pub rows_count : Refuses rows_count.Post (λ κ r. refused_by r)
   pub rows_name : Refuses rows_name.Post (λ κ r. refused_by r)
   pub reading_refused : Refuses reading_refused.Post (λ κ r. answer_by r)
+  pub reading_refusal : Refuses reading_refusal.Post (λ κ r n. r.number ≡ n)
   pub reading_starts : Refuses reading_starts.Post (λ κ r. refused_by r)
   pub terms_read : Refuses terms_read.Post (λ κ r. answer_by r)
   pub heads_head : Refuses heads_head.Post (λ κ r. head_by r)
@@ -139,6 +142,7 @@ numbered = record {
   rows_count = λ κ a r s p n h. numbered_by h.0 h.1.1;
   rows_name = λ κ a r s p n h. numbered_by h.0 h.1.1;
   reading_refused = λ κ a r s p n h. numbered_by h.0.why h.1.1;
+  reading_refusal = λ κ a r s p n h. numbered_by _ (sym h ∙ ap (λ (t : Told). t.number) p);
   reading_starts = λ κ a r s p n h. numbered_by h.0 h.1.1;
   terms_read = λ κ a r s p n h. numbered_by h.0.why h.1.1;
   heads_head = λ κ a r s p n h. numbered_by h.0.why h.1.1;

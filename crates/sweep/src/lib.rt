@@ -3,7 +3,7 @@
 
 #![tactic(auto)]
 
-ghost use Rattle.std.specs.Prelude.{◌<◌, length};
+ghost use Rattle.std.specs.Prelude.{◌≤◌, ◌<◌, length};
 
 use std::{array, fmt, mem};
 
@@ -23,21 +23,31 @@ pub fn spell(text: &mut [u8], digits: &[u8], number: usize)
     }
 }
 
-// Fills a row with the answers on a text over some bytes at one place of it. Answers whether the row differs from what it was: one of what
-// no answer is differs from every row, so that the first one is printed.
-pub fn renewed<F>(row: &mut [u8], text: &mut [u8], place: usize, bytes: &[u8], judged: F) -> bool
+// What a row came to: how many texts were judged for it, each counted as it was, and whether the row differs from what it was.
+#[derive(Clone, Copy)]
+pub struct Tried {
+    pub texts: usize,
+    pub differs: bool,
+}
+
+// Fills a row with the answers on a text over some bytes at one place of it, as far as row and bytes go. A row of what no answer is differs
+// from every row, so that the first one is printed.
+pub fn renewed<F>(row: &mut [u8], text: &mut [u8], place: usize, bytes: &[u8], judged: F) -> Tried
 where
     F: Fn(&[u8]) -> u8,
     requires within { place < length text.old }
     requires judges { F.IsAlwaysCallable judged }
+    ensures { result.texts ≤ length row.old }
 {
-    let mut new = false;
-    for (old, byte) in row.iter_mut().zip(bytes) {
-        text[place] = *byte;
+    let mut texts = 0;
+    let mut differs = false;
+    for i in 0..row.len().min(bytes.len()) {
+        text[place] = bytes[i];
         let answer = judged(text);
-        new |= mem::replace(old, answer) != answer;
+        differs |= mem::replace(&mut row[i], answer) != answer;
+        texts += 1;
     }
-    new
+    Tried { texts, differs }
 }
 
 // A row as its runs: a space and ANSWER*COUNT for each.

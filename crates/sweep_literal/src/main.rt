@@ -50,17 +50,21 @@ fn all_texts(out: &mut Out<'_>) -> Result<usize, fmt::Error> {
     Ok(count)
 }
 
-// Prints the accepted ones of the texts as long as this one: so many numbers spell them.
+// Prints the accepted ones of the texts as long as this one, each as soon as it is found: so many numbers spell them. Answers how many were
+// judged.
 fn texts(text: &mut [u8], numbers: usize, out: &mut Out<'_>) -> Result<usize, fmt::Error>
     ensures { IfOk result (λ n. n ≡ numbers) }
 {
+    let mut count = 0;
     for number in 0..numbers {
         sweep::spell(text, b"01.eE+-inf\0", number);
         if judged(text) {
             writeln!(out, "{}", Shown(text))?;
+            out.flush()?;
         }
+        count += 1;
     }
-    Ok(numbers)
+    Ok(count)
 }
 
 // A text with _ for each zero byte.
@@ -105,14 +109,14 @@ fn try_word(
         signs,
         patterns,
     };
-    word.cut(shown.len(), out)?;
+    let mut tried = word.cut(shown.len(), out)?;
     for n in 0..shown.len() {
-        word.cut(n, out)?;
+        tried += word.cut(n, out)?;
     }
     for place in 0..shown.len() {
-        word.changed(place, out)?;
+        tried += word.changed(place, out)?;
     }
-    Ok(patterns * (1 + shown.len() + 256 * shown.len()))
+    Ok(tried)
 }
 
 // A word, how many of its bytes are signs, and in how many patterns of letter case it is tried.
@@ -125,46 +129,52 @@ struct Word {
 }
 
 impl Word {
-    // The word's first n bytes, all of them or cut there: a row over the patterns.
-    fn cut(self, n: usize, out: &mut Out<'_>) -> fmt::Result
+    // The word's first n bytes, all of them or cut there: a row over the patterns. Answers how many texts were judged.
+    fn cut(self, n: usize, out: &mut Out<'_>) -> Result<usize, fmt::Error>
         requires { n ≤ length self.shown.now }
+        ensures { IfOk result (λ k. k ≤ 256) }
     {
         let mut row = [0u8; 256];
         let row = &mut row[..self.patterns];
+        let mut tried = 0;
         for (pattern, answer) in row.iter_mut().enumerate() {
             *answer = u8::from(judged(&self.cased(pattern)[..n]));
+            tried += 1;
         }
         if n == self.shown.len() {
-            writeln!(out, "{} whole{}", self.shown, Runs(row))
+            writeln!(out, "{} whole{}", self.shown, Runs(row))?;
         } else {
-            writeln!(out, "{} cut {n}{}", self.shown, Runs(row))
+            writeln!(out, "{} cut {n}{}", self.shown, Runs(row))?;
         }
+        out.flush()?;
+        Ok(tried)
     }
 
-    // The word with every byte at one place: a row over that byte for each pattern, printed where it differs from the row before it.
-    fn changed(self, place: usize, out: &mut Out<'_>) -> fmt::Result
+    // The word with every byte at one place: a row over that byte for each pattern, printed where it differs from the row before it. Answers how
+    // many texts were judged.
+    fn changed(self, place: usize, out: &mut Out<'_>) -> Result<usize, fmt::Error>
         requires { place < length self.shown.now }
+        ensures { IfOk result (λ k. k ≤ 65536) }
     {
+        let bytes = sweep::every();
         let mut row = [255u8; 256];
+        let mut tried = 0;
         for pattern in 0..self.patterns {
             let mut cased = self.cased(pattern);
             let text = &mut cased[..self.shown.len()];
-            if sweep::renewed(
-                &mut row,
-                text,
-                place,
-                &sweep::every(),
-                |s| u8::from(judged(s)),
-            ) {
+            let renewed = sweep::renewed(&mut row, text, place, &bytes, |s| u8::from(judged(s)));
+            if renewed.differs {
                 let runs = Runs(&row);
                 writeln!(
                     out,
                     "{} changed {place} pattern {pattern}{runs}",
                     self.shown
                 )?;
+                out.flush()?;
             }
+            tried += renewed.texts;
         }
-        Ok(())
+        Ok(tried)
     }
 
     // The word with a letter as a capital where its bit of the pattern is set, the first letter's bit worth least.

@@ -36,9 +36,11 @@ fn sections(out: &mut Out<'_>) -> fmt::Result {
 fn empty(out: &mut Out<'_>) -> Result<u64, fmt::Error>
     ensures { IfOk result (λ n. n ≡ 1) }
 {
+    let row = [judged(b"")];
     writeln!(out, "length 0")?;
-    writeln!(out, "-{}", Runs(&[judged(b"")]))?;
-    Ok(1)
+    writeln!(out, "-{}", Runs(&row))?;
+    out.flush()?;
+    Ok(row.len() as u64)
 }
 
 // The section of all texts as long as this one: so many numbers spell what stands before the last byte.
@@ -66,7 +68,8 @@ fn edges(out: &mut Out<'_>) -> Result<u64, fmt::Error>
     Ok(strings)
 }
 
-// A row for each number that the bytes from `from` on spell, up to the last byte, in the digits that are its values.
+// A row for each number that the bytes from `from` on spell, up to the last byte, in the digits that are its values, written as soon as it is
+// found. Answers how many texts were judged.
 fn rows(
     text: &mut [u8],
     from: usize,
@@ -80,13 +83,17 @@ fn rows(
     ensures { IfOk result (λ n. n ≤ 256 * numbers) }
 {
     let end = text.len() - 1;
+    let mut strings = 0;
     for number in 0..numbers {
         sweep::spell(&mut text[from..end], last, number);
-        if sweep::renewed(row, text, end, last, judged) {
+        let renewed = sweep::renewed(row, text, end, last, judged);
+        if renewed.differs {
             writeln!(out, "{}{}", Word(&text[..end]), Runs(row))?;
+            out.flush()?;
         }
+        strings += renewed.texts as u64;
     }
-    Ok((numbers * last.len()) as u64)
+    Ok(strings)
 }
 
 // The answer for a text, which is at most its length, as a byte.

@@ -34,6 +34,19 @@ written_over tape i (x ∷ xs) (y ∷ ys) h =
     ap (λ (z : List ℕ). sets z (suc i) ys) (set_sets (set tape i x) (suc i) xs i y (omega arith) ∙ ap (λ (z : List ℕ). sets z (suc i) xs) (set-set tape i x y))
     ∙ written_over (set tape i y) (suc i) xs ys (omega arith)
 
+-- what an open cell held is gone when it is closed
+pub closed_again : (tape : List ℕ) (c a k : ℕ) (ws : List ℕ) (e n : ℕ) →
+    closed (lay (closed tape c a k) (c + 1) ws) c e n ≡ closed (lay tape (c + 1) ws) c e n
+closed_again tape c a k ws e n =
+    let i : ℕ = c * cell_words in
+    let j : ℕ = (c + 1) * cell_words in
+    let under : (z : List ℕ) → closed (sets z j ws) c e n ≡ sets (closed z c e n) j ws =
+    λ z. ap (λ (y : List ℕ). set y (i + 4) n) (set_sets z j ws (i + 2) e (omega arith)) ∙ set_sets (set z (i + 2) e) j ws (i + 4) n (omega arith) in
+    let over : closed (closed tape c a k) c e n ≡ closed tape c e n =
+    ap (λ (y : List ℕ). set y (i + 4) n) (set_comm (set tape (i + 2) a) (i + 4) (i + 2) k e (λ h. omega arith) ∙ ap (λ (y : List ℕ). set y (i + 4) k) (set-set tape (i + 2) a e))
+    ∙ set-set (set tape (i + 2) e) (i + 4) k n in
+    under (closed tape c a k) ∙ ap (λ (y : List ℕ). sets y j ws) over ∙ sym (under tape)
+
 -- a word that is stored over one of those that were written, and one of them read back
 set_over : (l : List ℕ) (i : ℕ) (ws : List ℕ) (k v : ℕ) → k < length ws → set (sets l i ws) (i + k) v ≡ sets l i (set ws k v)
 set_over l i [] k v h = absurd (omega arith)

@@ -1,5 +1,5 @@
 -- Going by the rows of Unicode's table finds the character that stands at the front of a list of bytes (`by_table`), or that there is none
--- (`not_listed`). Assumes nothing.
+-- (`no_character`). Assumes nothing.
 use Rattle.std.proofs.Common.{◌≡◌, ℕ, suc, ◌<◌, ◌≤◌, Bool, true, false, ◌&&◌, ltb, leb, ◌⊎◌, List, [], ◌∷◌, ◌++◌, length, take, drop, Some, None, sym, refl, ap, ◌∙◌, subst, inl, inr, ⊎_elim, arith, take-append-drop, ltb-true, ne_eqb, le-leb, leb-true}
 use mathlib.Core.Bool.{false≢true, and-eq-true_iff}
 use borrow.Author.Tests.{lt-leb}

@@ -4,6 +4,7 @@ pub mod Table
 pub mod ByRows
 pub mod Tried
 pub mod Eights
+pub mod Joined
 pub mod Meaning
 pub mod Unique
 pub mod Laws

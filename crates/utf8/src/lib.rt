@@ -63,7 +63,9 @@ fn short(eight: &[u8; 8], n: usize) -> bool
 }
 
 // Eight bytes or more: by eights, the last of them those that end at the end. Counted by hand: over as_chunks, with `all`, a text takes
-// three instructions more, which is a tenth of what one of ten bytes takes.
+// three instructions more, which is a tenth of what one of ten bytes takes. (A call: within the loop over children it would take the registers
+// that the loop has its places in.)
+#[inline(never)]
 fn long(b: &[u8], at: usize, n: usize) -> bool
     requires { (8 ≤ n) × (at + n ≤ length b.now) }
     ensures { (result ≡ true) ↔ Plain b.now at (at + n) }

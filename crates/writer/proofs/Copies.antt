@@ -1,9 +1,17 @@
--- Copies: of sixteen bytes for the first few of them. Assumes nothing.
-use Rattle.std.proofs.Common.{◌≡◌, ℕ, suc, ◌+◌, ◌-◌, ◌/◌, ◌≤◌, List, length, get_or, take, drop, refl, ap, arith, length-drop, length-take-le, take-take}
+-- Copies: byte by byte, and of sixteen bytes for the first few of them. Assumes nothing.
+use Rattle.std.proofs.Common.{◌≡◌, ℕ, suc, ◌+◌, ◌-◌, ◌/◌, ◌<◌, ◌≤◌, List, length, get_or, take, drop, set, refl, ap, ◌∙◌, add-one, arith, length-drop, length-take-le, get_or-drop, take-take}
+use lib.Seq.{paste, paste-suc}
 use Rattle.std.specs.Simd.{first_chunks}
 use Rattle.std.proofs.lemmas.List.{take_rest}
 use Rattle.writer.specs.Inner.Put.{Wrote}
 use Rattle.writer.proofs.Wrote.{first, wider}
+
+-- one more
+pub copied : (old s : List ℕ) (p at i : ℕ) {new : List ℕ} → p + i < length old → at + i < length s → new ≡ paste old p (drop at s) i →
+    set new (p + i) (get_or s (at + i) 0) ≡ paste old p (drop at s) (i + 1)
+copied old s p at i h k e =
+    ap (λ (x : List ℕ). set x (p + i) (get_or s (at + i) 0)) e ∙
+    rw (add-one i, ← get_or-drop at s i 0) (paste-suc old p (drop at s) i 0 h (simp length-drop (omega arith)))
 
 -- the part of the texts that is copied
 pub part : (s : List ℕ) (at n : ℕ) → take (at + n - at) (drop at s) ≡ take n (drop at s)

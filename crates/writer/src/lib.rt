@@ -218,6 +218,16 @@ fn text(out: &mut [u8], p: usize, texts: &[u8], at: usize, n: usize, end: usize)
         out[p..p + 16].copy_from_slice(&first);
         return p + n;
     }
-    out[p..p + n].copy_from_slice(&texts[at..at + n]);
+    copy(out, p, texts, at, n);
     p + n
+}
+
+// (Byte by byte: std's copy of a slice would have the library call memmove, which a firmware needn't bring.)
+fn copy(out: &mut [u8], p: usize, texts: &[u8], at: usize, n: usize)
+    requires { TextFits (length texts.now) at n p (p + n) (length out.old) }
+    ensures { Wrote out.old out.new p (p + n) (p + n) (take n (drop at texts.now)) }
+{
+    for i in 0..n {
+        out[p + i] = texts[at + i];
+    }
 }

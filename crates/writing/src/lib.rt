@@ -3,6 +3,8 @@
 
 #![tactic(auto)]
 
+ghost use Rattle.std.specs.Prelude.{◌≤◌, length};
+
 use asking::Nothing;
 use print::{Hex, Out};
 use std::fmt;
@@ -50,14 +52,28 @@ fn blank_at(i: usize) -> u8 {
     (255 - i % 251) as u8
 }
 
+// And what the one behind it holds. (By their places, with `%` for each byte, the loops take twice as long.)
+fn after(blank: u8) -> u8 {
+    if blank <= 5 { 255 } else { blank - 1 }
+}
+
 fn blank(lent: &mut [u8]) {
-    for (i, byte) in lent.iter_mut().enumerate() {
-        *byte = blank_at(i);
+    let mut blank = blank_at(0);
+    for byte in lent.iter_mut() {
+        *byte = blank;
+        blank = after(blank);
     }
 }
 
-// How many bytes from a place on hold what they held before.
-fn kept(lent: &[u8], from: usize) -> usize {
-    let rest = lent.iter().enumerate().skip(from);
-    rest.filter(|(i, byte)| **byte == blank_at(*i)).count()
+// How many bytes from a place on hold what they held before. (By `skip`, `filter` and `count` it takes longer still.)
+fn kept(lent: &[u8], from: usize) -> usize
+    requires { from ≤ length lent.now }
+{
+    let mut n = 0;
+    let mut blank = blank_at(from);
+    for byte in &lent[from..] {
+        n += usize::from(*byte == blank);
+        blank = after(blank);
+    }
+    n
 }

@@ -1,19 +1,24 @@
--- `header::put` meets its contract: the length is written, and the name is copied behind it. Assumes nothing.
-use Prim.Native.Nat.{ℕ, ◌+◌, ◌-◌, ◌*◌}
+-- `header::put` meets its contract. The loop's invariant: the whole name over the store as it was is the rest of the name over the
+-- store now. Assumes nothing.
+use Prim.Native.Nat.{◌*◌}
+use native.Mathlib.Nat.{add-zero}
 use native.Mathlib.Numerals.{add-one}
 use native.Mathlib.Omega.{arith}
-use lib.ListN.{length, set, length-set}
-use mathlib.Core.Path.{◌≡◌, ap, ◌∙◌}
-use lib.Seq.{sets}
+use mathlib.Core.Path.{refl, sym, ◌∙◌}
+use lib.ListN.{length, length-set}
 use Rattle.cache.specs.Names.{stored}
-use Rattle.cache.proofs.Writes.{copied}
+use Rattle.cache.proofs.Writes.{sets_more, sets_all}
 use Rattle.header.proofs.put.Goals as goal
+
+pub loop-i-init : goal.loop-i-init
+loop-i-init c = (refl, rw add-zero)
+
+pub bounds-store-at-in-loop-i : goal.bounds-store-at-in-loop-i
+bounds-store-at-in-loop-i c = omega (arith, length-set c.args.store.now (c.from-at.result * 256) (length c.args.name.now))
+
+pub loop-i-preserved : goal.loop-i-preserved
+loop-i-preserved c = (simp length-set (simp length-set at c.loop-i.invariant.0), c.loop-i.invariant.1 ∙ sets_more _ _ _ _ c.loop-i-test.true)
 
 pub returns : goal.returns
 unfolding stored
-returns c =
-    let at = c.args.slot * 256 in
-    let front = set c.args.store.now at (length c.args.name.now) in
-    let e : at + 1 + length c.args.name.now - (at + 1) ≡ length c.args.name.now = omega arith in
-    rw (c.copy_from_slice.ensures.after, c.from-at.ensures)
-    (copied front c.args.name.now (at + 1) e (simp length-set (omega arith)) ∙ ap (λ (k : ℕ). sets front k c.args.name.now) (add-one at))
+returns c = rw (← c.from-at.ensures) (sym (rw (add-one (c.from-at.result * 256)) at c.loop-i.invariant.1 ∙ sets_all _ _ _ _ c.loop-i-test.false))

@@ -1,7 +1,7 @@
 -- `writer::text` meets its contract: sixteen bytes hold a short text, and a copy any. Assumes nothing.
 use Rattle.std.proofs.Common.{refl, ◌∙◌, arith}
 use Rattle.writer.proofs.Wrote.{put, wider}
-use Rattle.writer.proofs.Copies.{part, sixteen, first_sixteen}
+use Rattle.writer.proofs.Copies.{sixteen, first_sixteen}
 use Rattle.writer.proofs.text.Goals as goal
 
 pub returns-then-texts-at-ge16 : goal.returns-then-texts-at-ge16
@@ -12,7 +12,4 @@ returns-then-texts-at-ge16 c =
     (rw (← e) (put _ _ _ _ (omega arith) (omega arith) c.copy_from_slice.ensures.len))
 
 pub returns : goal.returns
-returns c =
-    let a = c.args in
-    let e = c.copy_from_slice-2.ensures.after ∙ part a.texts.now a.at a.n in
-    rw (← e) (wider refl (omega arith) (put _ _ _ _ (omega arith) (omega arith) c.copy_from_slice-2.ensures.len))
+returns c = wider refl (omega arith) c.copy.ensures

@@ -1,0 +1,2 @@
+-- What only the contracts of this crate need: nobody has to believe it.
+pub mod Spelt
