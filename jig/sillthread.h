@@ -15,7 +15,7 @@
  * - What is lent to be written overlaps nothing else that is lent to the same call. What is only read may overlap.
  * - Nothing that is lent changes while the call runs, by a thread, an interrupt or a DMA: sill_read, sill_message, the lookups and sill_write go over what
  *   they are lent more than once, and judge it once.
- * - Stack. At limit 64 the deepest call needs 24,976 bytes on x86-64; `./memory` says what the library at hand needs, each call at limits 1, 8 and 64. On
+ * - Stack. At limit 64 the deepest call needs 18,648 bytes on x86-64; `./memory` says what the library at hand needs, each call at limits 1, 8 and 64. On
  *   Cortex-M3 it needed 28,316, with 8 for our own __aeabi_memcpy, as the older kit 5b compiled it, whose figures docs/MEMORY.md has; more is to be expected.
  * A call keeps nothing between two calls and has no data of its own: calls may interrupt each other and run side by side, each over what it is lent. No
  * argument is a float: which registers floats are passed in is the same to us, but linkers want it alike, and there is a library for each (cortex-m4f).

@@ -6,7 +6,7 @@
 
 #![tactic(auto)]
 
-ghost use Rattle.std.specs.Prelude.{◌≤◌, length};
+ghost use Rattle.std.specs.Prelude.{OnErr, IsNone, ◌≡◌, ◌≤◌, length};
 
 use std::io::{ErrorKind, Print, Stderr, Stdout};
 use std::process::ExitCode;
@@ -58,8 +58,10 @@ impl<'a> Out<'a> {
         self.to.ok_or(fmt::Error)
     }
 
-    // Of a write that failed it is said.
-    fn told(&mut self, written: io::Result<()>) -> fmt::Result {
+    // Of a write that failed it is said, and there is no output any more.
+    fn told(&mut self, written: io::Result<()>) -> fmt::Result
+        ensures { OnErr result (IsNone self.new.to) }
+    {
         let Err(error) = written else {
             return Ok(());
         };
@@ -72,8 +74,10 @@ impl<'a> Out<'a> {
         Err(fmt::Error)
     }
 
-    // What a program says that can't read its input.
-    pub fn unread(&mut self) {
+    // What a program says that can't read its input. An output that has failed stays so.
+    pub fn unread(&mut self)
+        ensures { self.new.to ≡ self.old.to }
+    {
         self.ends("standard input could not be read", Ending::Unread);
     }
 
@@ -84,7 +88,9 @@ impl<'a> Out<'a> {
         Ok(())
     }
 
-    fn ends(&mut self, why: &str, ending: Ending) {
+    fn ends(&mut self, why: &str, ending: Ending)
+        ensures { self.new.to ≡ self.old.to }
+    {
         let _ = self.errors.println(why);
         self.ending = ending;
     }

@@ -3,7 +3,7 @@
 
 #![tactic(auto)]
 
-ghost use Rattle.std.specs.Prelude.{◌≤◌, ◌<◌, length};
+ghost use Rattle.std.specs.Prelude.{◌≡◌, ◌<◌, min, length};
 
 use std::{array, fmt, mem};
 
@@ -37,7 +37,7 @@ where
     F: Fn(&[u8]) -> u8,
     requires within { place < length text.old }
     requires judges { F.IsAlwaysCallable judged }
-    ensures { result.texts ≤ length row.old }
+    ensures { result.texts ≡ min (length row.old) (length bytes.now) }
 {
     let mut texts = 0;
     let mut differs = false;

@@ -7,7 +7,7 @@
 
 #![tactic(auto)]
 
-ghost use Rattle.std.specs.Prelude.{IfOk, ◌≡◌, ◌≤◌, ◌<◌, length};
+ghost use Rattle.std.specs.Prelude.{IfOk, ◌≡◌, ◌*◌, ◌≤◌, ◌<◌, length};
 
 use print::Out;
 use std::fmt;
@@ -132,7 +132,7 @@ impl Word {
     // The word's first n bytes, all of them or cut there: a row over the patterns. Answers how many texts were judged.
     fn cut(self, n: usize, out: &mut Out<'_>) -> Result<usize, fmt::Error>
         requires { n ≤ length self.shown.now }
-        ensures { IfOk result (λ k. k ≤ 256) }
+        ensures { IfOk result (λ k. k ≡ self.patterns) }
     {
         let mut row = [0u8; 256];
         let row = &mut row[..self.patterns];
@@ -154,7 +154,7 @@ impl Word {
     // many texts were judged.
     fn changed(self, place: usize, out: &mut Out<'_>) -> Result<usize, fmt::Error>
         requires { place < length self.shown.now }
-        ensures { IfOk result (λ k. k ≤ 65536) }
+        ensures { IfOk result (λ k. k ≡ 256 * self.patterns) }
     {
         let bytes = sweep::every();
         let mut row = [255u8; 256];

@@ -80,7 +80,7 @@ fn rows(
 ) -> Result<u64, fmt::Error>
     requires place { (from < length text.old) × (numbers ≤ 65536) }
     requires values { (0 < length last.now) × ((length row.old ≡ length last.now) × (length last.now ≤ 256)) }
-    ensures { IfOk result (λ n. n ≤ 256 * numbers) }
+    ensures { IfOk result (λ n. n ≡ numbers * length last.now) }
 {
     let end = text.len() - 1;
     let mut strings = 0;

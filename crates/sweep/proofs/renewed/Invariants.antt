@@ -1,5 +1,5 @@
 -- As many texts are judged as turns were made. Row and text keep their lengths.
-use Rattle.std.proofs.Common.{length, ◌≡◌, ◌≤◌}
+use Rattle.std.proofs.Common.{length, ◌≡◌}
 use Rattle.sweep.proofs.renewed.Given as goal
 
 abbrev pub invariant-loop-i : goal.invariant-loop-i

@@ -1,5 +1,5 @@
 -- A cut has 256 texts at most, and the changes of a place 65,536.
-use Rattle.std.proofs.Common.{length, ◌+◌, ◌*◌, ◌≤◌}
+use Rattle.std.proofs.Common.{◌+◌, ◌*◌, ◌≤◌}
 use Rattle.sweep_literal.proofs.try_word.Given as goal
 
 abbrev pub invariant-loop-n : goal.invariant-loop-n
