@@ -12,8 +12,8 @@
 # through the calls. What isn't understood of the stack, of a jump or of a call is an error; so is an instruction that no way leads to, and an
 # address of code that is kept.
 #
-# Reading calls itself; the steps of steps.rt call no reader. The readers of readers.rt hand on `rem`, the levels of nesting that are left. `term` and `child` are given those left for the
-# term that they read: at 0 they refuse, else they take one off before they hand it on, but that `child` hands `term` what it was given. All
+# Reading calls itself; the steps of steps.rt call no reader. The readers of readers.rt hand on `rem`, the levels of nesting that are left. `term`
+# and `child` are given those left for the term that they read: at 0 they refuse, else they take one off before they hand it on, but that `child` hands `term` what it was given. All
 # others hand on what they were given. So a level falls where a call leads from the others back to those two: where `required` calls `term` and
 # `kids` calls `child`. No way has more falls than the limit has levels. In the code a reader may have become part of another, and a call from
 # reader to reader stands for some way between them in the source: it falls where each such way does, which is where none goes by the source's
